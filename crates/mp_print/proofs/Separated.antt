@@ -62,14 +62,11 @@ module _ {K X : Type 0} (words : SinkWords K) (f : X → Text) (separator : Text
       ap (separated separator) (take-next i x within is) ∙ separated-push separator (take i texts) (f x)
       ∙ ap (λ n. separated separator (take i texts) ++ (gap_text separator n ++ f x)) count
 
-  -- the texts of the items before an index are put, each behind the separator, and then so is that of the item there
-  pub Puts-preceded : (i : ℕ) (x : X) → i < length xs → x ≡ get_or xs i x → (t u v : Writer K)
-      → Puts words t u (preceded separator (take i texts)) → Puts words u v (separator ++ f x)
-      → Puts words t v (preceded separator (take (i + 1) texts))
-  Puts-preceded i x within is t u v before item =
-      subst (Puts words t v)
-      (sym (ap (preceded separator) (take-next i x within is) ∙ preceded-push separator (take i texts) (f x)))
-      (Puts-then words t u v (preceded separator (take i texts)) (separator ++ f x) before item)
+  -- they, each behind the separator
+  pub preceded-next : (i : ℕ) (x : X) → i < length xs → x ≡ get_or xs i x
+      → preceded separator (take (i + 1) texts) ≡ preceded separator (take i texts) ++ (separator ++ f x)
+  preceded-next i x within is =
+      ap (preceded separator) (take-next i x within is) ∙ preceded-push separator (take i texts) (f x)
 
   -- the texts of the items before an index are put, then a gap, and then the text of the item there
   pub Puts-separated : (i : ℕ) (x : X) → i < length xs → x ≡ get_or xs i x → (t u v w : Writer K)
@@ -80,12 +77,11 @@ module _ {K X : Type 0} (words : SinkWords K) (f : X → Text) (separator : Text
       (Puts-then words t u w (separated separator (take i texts)) (gap_text separator i ++ f x) before
       (Puts-then words u v w (gap_text separator i) (f x) gap item))
 
-  -- the text of the first item is put, and then those of the others, each behind the separator
-  pub Puts-first : (d : X) → 1 ≤ length xs → (t u v : Writer K) → Puts words t u (f (get_or xs 0 d))
-      → Puts words u v (preceded separator (map f (take (length xs - 1) (drop 1 xs))))
-      → Puts words t v (separated separator texts)
-  Puts-first d some t u v first rest = subst (Puts words t v) (go xs some ∙ ap (separated separator) same)
-      (Puts-then words t u v _ _ first rest)
+  -- the text of the first item, and those of the others, each behind the separator
+  pub separated-first : (d : X) → 1 ≤ length xs
+      → separated separator texts
+      ≡ f (get_or xs 0 d) ++ preceded separator (map f (take (length xs - 1) (drop 1 xs)))
+  separated-first d some = sym (go xs some ∙ ap (separated separator) same)
     where
       go : (xs : List X) → 1 ≤ length xs
           → f (get_or xs 0 d) ++ preceded separator (map f (take (length xs - 1) (drop 1 xs)))

@@ -9,7 +9,7 @@ ghost use Rattle.mp_term.specs.Size.{node_count};
 ghost use Rattle.mp_pattern.specs.Value.{one_form};
 ghost use Rattle.mp_table.specs.Table.{term_at};
 ghost use Rattle.mp_subst.specs.Bound.{bound_of, value_from, value_in};
-ghost use Rattle.mp_print.specs.KeptTexts.{AreKeptTexts};
+ghost use Rattle.mp_print.specs.KeptTexts.{AreKeptTexts, IsWithin, PutsBut, part_of};
 ghost use Rattle.mp_print.specs.Printing.{preceded, separated, term_text, value_text};
 
 use crate::tree_printer::{PrintedTree, put_application, put_tree};
@@ -19,31 +19,48 @@ use mp_subst::Bound;
 use mp_table::{Head, Rank, Table};
 use mp_term::{OpId, Signature};
 
-/// What ranks are printed by: a table, and the texts that are kept of its terms, each at the rank of its term and
-/// behind a comma and a blank, with nothing where none is kept.
+/// A part of the bytes of kept texts.
+#[derive(Drop, Clone, Copy)]
+pub(crate) struct Part {
+    pub(crate) from: usize,
+    pub(crate) to: usize,
+}
+
+/// What ranks are printed by: a table, and the texts that are kept of its terms, one behind another in the order of the
+/// ranks, each behind a comma and a blank. The part at a rank is its text, or is empty where none is kept.
 #[derive(Drop)]
 pub(crate) struct RankBase<'a> {
     pub(crate) table: &'a Table,
-    pub(crate) texts: &'a [Vec<u8>],
+    pub(crate) texts: &'a [u8],
+    pub(crate) parts: &'a [Part],
 }
 
 impl<'a> RankBase<'a> {
     /// The table, of whose terms no text is kept.
     fn plain(table: &'a Table) -> RankBase<'a>
         ensures table { result.table.now ≡ table.now }
-        ensures texts { (sig : Sig) → AreKeptTexts sig table.now (map (λ t. t.items) result.texts.now) }
+        ensures texts { (sig : Sig) → AreKeptTexts sig result.table.now result.texts.now result.parts.now }
     {
-        RankBase { table, texts: &[] }
+        RankBase {
+            table,
+            texts: &[],
+            parts: &[],
+        }
     }
 
-    /// The text that is kept of the term of the rank, behind a comma and a blank, where there is one.
-    fn kept_text(&self, rank: Rank) -> Option<&[u8]>
-        ensures { IfSome result (λ text. (sig : Sig) →
-            AreKeptTexts sig self.now.table.now (map (λ t. t.items) self.now.texts.now) →
-            text.now ≡ codes ", " ++ term_text sig (term_at self.now.table.now rank)) }
+    /// Where the text of the term of the rank is kept, behind a comma and a blank, if it is.
+    fn kept(&self, rank: Rank) -> Option<Part>
+        ensures { IfSome result (λ p. (sig : Sig)
+            → AreKeptTexts sig self.now.table.now self.now.texts.now self.now.parts.now
+            → IsWithin self.now.texts.now p
+            × (part_of self.now.texts.now p ≡ codes ", " ++ term_text sig (term_at self.now.table.now rank))) }
     {
-        let text = self.texts.get(rank.0 as usize)?;
-        if text.is_empty() { None } else { Some(text) }
+        let part = *self.parts.get(rank.0 as usize)?;
+        if part.from < part.to {
+            Some(part)
+        } else {
+            None
+        }
     }
 }
 
@@ -77,7 +94,7 @@ impl<'a> PrintedTree<RankBase<'a>> for Rank {
 
     ghost size = { λ b r. node_count (term_at b.table.now r) };
 
-    ghost may_print = { λ sig b. AreKeptTexts sig b.table.now (map (λ t. t.items) b.texts.now) };
+    ghost may_print = { λ sig b. AreKeptTexts sig b.table.now b.texts.now b.parts.now };
 
     fn put_leaf<'t, K: Sink>(
         &'t self,
@@ -85,8 +102,8 @@ impl<'a> PrintedTree<RankBase<'a>> for Rank {
         base: &'t RankBase<'a>,
         out: &mut Writer<'_, K>,
     ) -> Option<(OpId, &'t [Rank])> {
-        if let Some(text) = base.kept_text(*self) {
-            out.put(&text[2..]);
+        if let Some(part) = base.kept(*self) {
+            out.put(&base.texts[part.from + 2..part.to]);
             return None;
         }
         if self.0 >= base.table.len() {
@@ -122,7 +139,7 @@ pub(crate) fn put_bound_by<K: Sink>(
     bound: &Bound<'_>,
     out: &mut Writer<'_, K>,
 )
-    requires { AreKeptTexts sig.now base.now.table.now (map (λ t. t.items) base.now.texts.now) }
+    requires { AreKeptTexts sig.now base.now.table.now base.now.texts.now base.now.parts.now }
     ensures { Puts K.Sink out.old out.new (value_text sig.now (value_in base.now.table.now (bound_of bound.now))) }
 {
     match bound.form {
@@ -140,7 +157,7 @@ fn put_single<K: Sink>(
     ranks: &[Rank],
     out: &mut Writer<'_, K>,
 )
-    requires { AreKeptTexts sig.now base.now.table.now (map (λ t. t.items) base.now.texts.now) }
+    requires { AreKeptTexts sig.now base.now.table.now base.now.texts.now base.now.parts.now }
     ensures { Puts K.Sink out.old out.new
         (value_text sig.now (value_from base.now.table.now one_form (option_map (λ f. f.0) wrap) ranks.now)) }
 {
@@ -163,7 +180,7 @@ fn put_list<K: Sink>(
     closing: u8,
     out: &mut Writer<'_, K>,
 )
-    requires { AreKeptTexts sig.now base.now.table.now (map (λ t. t.items) base.now.texts.now) }
+    requires { AreKeptTexts sig.now base.now.table.now base.now.texts.now base.now.parts.now }
     ensures { Puts K.Sink out.old out.new (opening ∷ (separated (codes ", ")
         (map (λ r. term_text sig.now (term_at base.now.table.now r)) ranks.now) ++ closing ∷ [])) }
 {
@@ -174,42 +191,112 @@ fn put_list<K: Sink>(
 
 /// Puts the texts of the terms of ranks, with a comma between each two.
 fn put_ranks<K: Sink>(sig: &Signature, base: &RankBase<'_>, ranks: &[Rank], out: &mut Writer<'_, K>)
-    requires { AreKeptTexts sig.now base.now.table.now (map (λ t. t.items) base.now.texts.now) }
+    requires { AreKeptTexts sig.now base.now.table.now base.now.texts.now base.now.parts.now }
     ensures { Puts K.Sink out.old out.new (separated (codes ", ")
         (map (λ r. term_text sig.now (term_at base.now.table.now r)) ranks.now)) }
 {
     if let [first, rest @ ..] = ranks {
-        put_tree(sig, base, first, out);
-        put_all_next(sig, base, rest, out);
+        let run = put_first(sig, base, first, out);
+        put_all_next(sig, base, run, rest, out);
     }
 }
 
-/// Puts the texts of the terms of ranks, each behind a comma and a blank.
+/// Puts the text of the term of a rank, or answers its part of the kept texts.
+fn put_first<K: Sink>(
+    sig: &Signature,
+    base: &RankBase<'_>,
+    rank: &Rank,
+    out: &mut Writer<'_, K>,
+) -> Part
+    requires { AreKeptTexts sig.now base.now.table.now base.now.texts.now base.now.parts.now }
+    ensures within { IsWithin base.now.texts.now result }
+    ensures puts { PutsBut K.Sink out.old out.new (term_text sig.now (term_at base.now.table.now rank.now))
+        (part_of base.now.texts.now result) }
+{
+    match base.kept(*rank) {
+        Some(part) => Part {
+            from: part.from + 2,
+            to: part.to,
+        },
+        None => {
+            put_tree(sig, base, rank, out);
+            Part { from: 0, to: 0 }
+        }
+    }
+}
+
+/// Puts a part of the kept texts, and behind it the texts of the terms of ranks, each behind a comma and a blank. What
+/// stands side by side in the kept texts is put at once.
 fn put_all_next<K: Sink>(
     sig: &Signature,
     base: &RankBase<'_>,
+    first: Part,
     ranks: &[Rank],
     out: &mut Writer<'_, K>,
 )
-    requires { AreKeptTexts sig.now base.now.table.now (map (λ t. t.items) base.now.texts.now) }
-    ensures { Puts K.Sink out.old out.new (preceded (codes ", ")
+    requires kept { AreKeptTexts sig.now base.now.table.now base.now.texts.now base.now.parts.now }
+    requires within { IsWithin base.now.texts.now first }
+    ensures { Puts K.Sink out.old out.new (part_of base.now.texts.now first ++ preceded (codes ", ")
         (map (λ r. term_text sig.now (term_at base.now.table.now r)) ranks.now)) }
 {
+    let mut run = first;
     for rank in ranks {
-        put_next(sig, base, *rank, out);
+        run = put_next_to(sig, base, run, *rank, out);
+    }
+    put_part(base, run, out);
+}
+
+/// Puts a part of the kept texts and the text of the term of a rank behind a comma and a blank, but for an end of these
+/// that is a part of the kept texts, which it answers.
+fn put_next_to<K: Sink>(
+    sig: &Signature,
+    base: &RankBase<'_>,
+    run: Part,
+    rank: Rank,
+    out: &mut Writer<'_, K>,
+) -> Part
+    requires kept { AreKeptTexts sig.now base.now.table.now base.now.texts.now base.now.parts.now }
+    requires within { IsWithin base.now.texts.now run }
+    ensures within { IsWithin base.now.texts.now result }
+    ensures puts { PutsBut K.Sink out.old out.new
+        (part_of base.now.texts.now run ++ (codes ", " ++ term_text sig.now (term_at base.now.table.now rank)))
+        (part_of base.now.texts.now result) }
+{
+    match base.kept(rank) {
+        Some(part) if part.from == run.to => Part {
+            from: run.from,
+            to: part.to,
+        },
+        Some(part) => {
+            put_part(base, run, out);
+            part
+        }
+        None => {
+            put_part(base, run, out);
+            put_next(sig, base, rank, out);
+            Part {
+                from: run.to,
+                to: run.to,
+            }
+        }
+    }
+}
+
+/// Puts a part of the kept texts.
+fn put_part<K: Sink>(base: &RankBase<'_>, part: Part, out: &mut Writer<'_, K>)
+    requires { IsWithin base.now.texts.now part }
+    ensures { Puts K.Sink out.old out.new (part_of base.now.texts.now part) }
+{
+    if part.from < part.to {
+        out.put(&base.texts[part.from..part.to]);
     }
 }
 
 /// Puts the text of the term of a rank behind a comma and a blank.
 fn put_next<K: Sink>(sig: &Signature, base: &RankBase<'_>, rank: Rank, out: &mut Writer<'_, K>)
-    requires { AreKeptTexts sig.now base.now.table.now (map (λ t. t.items) base.now.texts.now) }
+    requires { AreKeptTexts sig.now base.now.table.now base.now.texts.now base.now.parts.now }
     ensures { Puts K.Sink out.old out.new (codes ", " ++ term_text sig.now (term_at base.now.table.now rank)) }
 {
-    match base.kept_text(rank) {
-        Some(text) => out.put(text),
-        None => {
-            out.put(b", ");
-            put_tree(sig, base, &rank, out);
-        }
-    }
+    out.put(b", ");
+    put_tree(sig, base, &rank, out);
 }

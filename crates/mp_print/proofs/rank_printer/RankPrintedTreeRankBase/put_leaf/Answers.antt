@@ -1,18 +1,40 @@
-use Rattle.std.proofs.Common.{◌≡◌, ◌≤◌, ◌∙◌, ap, length, sym, arith, refl}
+use Rattle.std.proofs.Common.{◌≡◌, ◌≤◌, ◌∙◌, ap, sym, arith, refl, subst}
 use Rattle.std.specs.Prelude.{slice_get, sum_by}
+use Rattle.mp_io.specs.Writing.{Puts}
 use Rattle.mp_term.specs.Tree.{app, trees}
 use Rattle.mp_term.specs.Size.{node_count, all_nodes}
 use Rattle.mp_table.specs.Table.{term_at, terms_at}
 use Rattle.mp_table.proofs.HeadLaws.{app_is}
 use Rattle.mp_print.specs.Printing.{term_text, term_texts}
 use Rattle.mp_print.proofs.Arguments.{sizes-sum, text-app}
+use Rattle.mp_print.proofs.KeptTextLaws.{IsWithin-behind_comma}
 use Rattle.mp_print.proofs.rank_printer.RankPrintedTreeRankBase.put_leaf.Goals as goal
 
+pub overflow_add-part : goal.overflow_add-part
+overflow_add-part g c =
+    let kept = c.in-Some.ensures c.args.sig.now c.requires in
+    omega (arith, (IsWithin-behind_comma c.args.base.now.texts.now _ c.in-Some.part kept.0 kept.1).0.ordered)
+
 pub slice_bounds-put-count : goal.slice_bounds-put-count
-slice_bounds-put-count g c = omega (arith, ap length (c.in-Some.ensures c.args.sig.now c.requires))
+slice_bounds-put-count g c =
+    let kept = c.in-Some.ensures c.args.sig.now c.requires in
+    omega (arith, (IsWithin-behind_comma c.args.base.now.texts.now _ c.in-Some.part kept.0 kept.1).0.ordered)
 
 pub slice_bounds-put-start : goal.slice_bounds-put-start
-slice_bounds-put-start g c = omega (arith, ap length (c.in-Some.ensures c.args.sig.now c.requires))
+slice_bounds-put-start g c =
+    let kept = c.in-Some.ensures c.args.sig.now c.requires in
+    omega (arith, (IsWithin-behind_comma c.args.base.now.texts.now _ c.in-Some.part kept.0 kept.1).0.ordered)
+
+pub slice_bounds-put-end : goal.slice_bounds-put-end
+slice_bounds-put-end g c =
+    let kept = c.in-Some.ensures c.args.sig.now c.requires in
+    omega (arith, kept.0.ended)
+
+pub returns-in-Some-clause-puts : goal.returns-in-Some-clause-puts
+returns-in-Some-clause-puts g c =
+    let kept = c.in-Some.ensures c.args.sig.now c.requires in
+    subst (Puts g.K.Sink c.args.out.now c.put.new.self)
+    (IsWithin-behind_comma c.args.base.now.texts.now _ c.in-Some.part kept.0 kept.1).1 c.put.ensures
 
 pub returns-in-App-clause-text : goal.returns-in-App-clause-text
 returns-in-App-clause-text g c =
