@@ -1,7 +1,7 @@
 -- A search that begins: what is known of its parts.
-use Rattle.std.proofs.Common.{◌≡◌, ◌≤◌, ◌+◌, ℕ, List, [], ◌∷◌, ◌++◌, length, map, true, ap, sym, subst, ◌∙◌}
+use Rattle.std.proofs.Common.{◌≡◌, ◌≤◌, ℕ, List, [], ◌∷◌, ◌++◌, length, map, true, ap, sym, subst, ◌∙◌}
 use Rattle.std.proofs.Common.{arith, Bool, false, inl, inr}
-use Rattle.std.specs.Prelude.{IsSome, None, Some, take}
+use Rattle.std.specs.Prelude.{IsSome, None, take}
 use Rattle.std.specs.List.{AllByRecursion}
 use Rattle.std.specs.List.Sorted.{IsSorted}
 use Rattle.std.proofs.Math.Seq.{take-append_seam}
@@ -44,7 +44,7 @@ use Rattle.mp_ac.specs.Asked.{IsAsked, cost, root_list}
 use Rattle.mp_ac.specs.Begin.{AreParts, IsNodeOf}
 use Rattle.mp_ac.specs.Candidates.{given_terms}
 use Rattle.mp_ac.specs.CommPlan.{IsCommPlanOf, IsNumbered, IsNumberedPattern, nodes_below, root_op}
-use Rattle.mp_ac.specs.CommPlans.{child_at}
+use Rattle.mp_ac.specs.CommPlans.{AreLeads}
 use Rattle.mp_ac.specs.CommRoom.{IsRoomFor}
 use Rattle.mp_ac.specs.Numbered.{IsTrailOf, numbered_subst}
 use Rattle.mp_ac.specs.Planned.{plan_of}
@@ -56,6 +56,7 @@ use Rattle.mp_ac.specs.declared.begin.Node.{Node}
 use Rattle.mp_ac.specs.declared.comm_plan.CommPlan.{CommPlan}
 use Rattle.mp_ac.specs.declared.comm_plans.CommPlans.{CommPlans}
 use Rattle.mp_ac.specs.declared.search.CommSearch.{CommSearch}
+use Rattle.mp_ac.proofs.PicksLaws.{leads-length}
 use Rattle.mp_ac.proofs.SearchLaws.{distinct-numbers}
 use Rattle.mp_ac.proofs.SyntacticLaws.{names-children}
 
@@ -107,10 +108,13 @@ all-leading sig (p ∷ ps) qs h each =
     )
 
 -- what the children take together
+pub node-given : (t : Table) (n : Node) (r : Rank) (alone : Bool) → (n.node ≡ r) × (n.alone ≡ alone)
+    → given_terms (term_at t n.node) n.alone ≡ given_terms (term_at t r) alone
+node-given t n r alone is = ap (λ q. given_terms (term_at t q) n.alone) is.0 ∙ ap (given_terms (term_at t r)) is.1
+
 pub node-terms : (t : Table) (n : Node) (r : Rank) (alone : Bool) → IsNodeOf t n → (n.node ≡ r) × (n.alone ≡ alone)
     → terms_at t (args_of n.args) ≡ given_terms (term_at t r) alone
-node-terms t n r alone h is = h.terms ∙ ap (λ q. given_terms (term_at t q) n.alone) is.0
-    ∙ ap (given_terms (term_at t r)) is.1
+node-terms t n r alone h is = h.terms ∙ node-given t n r alone is
 
 module _ (sig : Sig) (x : CommPlans) (p : Pattern) (ns : List ℕ) (c : CommPlan) (parts : AreParts sig x p ns c) where
   -- the plan's pattern is that of the other children
@@ -121,7 +125,7 @@ module _ (sig : Sig) (x : CommPlans) (p : Pattern) (ns : List ℕ) (c : CommPlan
   own-comm_plan = subst (λ q. IsCommPlanOf sig q c) (sym own-pattern) parts.plan
 
   count : length ns ≡ length parts.leading
-  count = sym (length-map ns (child_at x)) ∙ ap length parts.numbered ∙ length-map parts.leading Some
+  count = leads-length x ns parts.leading parts.leads
 
   module _ (cs : List declared.Pattern) (g : ℕ) (is : p ≡ app_pattern g (patterns (map pattern_tree cs))) where
     -- the children of the pattern
@@ -232,7 +236,7 @@ module _ (c : CommSearch) (x : CommPlans) (p : Pattern) (ns : List ℕ) (alone :
       (all_nodes (terms_at c.table.now (given_of c))) c.room
       → AreGrounds c.table.now (subpatterns own) c.room.grounds.list.items.items
       → HasRanks c.table.now c.room.choices.items
-      → ((ps : List Pattern) → map (child_at x) ns ≡ map Some ps
+      → ((ps : List Pattern) → AreLeads x ns ps
       → ArePicksOf c.table.now (terms_at c.table.now (given_of c)) c.room.width c.room.choices.items ps
       c.room.picks.items)
       → IsTrailOf c.table.now u → cost p ts ≤ u.spare → IsOver c u
@@ -251,7 +255,7 @@ module _ (c : CommSearch) (x : CommPlans) (p : Pattern) (ns : List ℕ) (alone :
     grounds = grounds;
     choices = choices;
     picks = subst (λ ps. ArePicksOf c.table.now (terms_at c.table.now (given_of c)) c.room.width c.room.choices.items ps
-        c.room.picks.items) (sym front) (picks parts.leading parts.numbered);
+        c.room.picks.items) (sym front) (picks parts.leading parts.leads);
     picked = λ e. absurd (let k : Before ≡ Standing = sym stage ∙ e in cc);
     trail = trail;
     spare = subst (λ n. n ≤ u.spare) (sym begun-cost) spare;

@@ -1,10 +1,11 @@
 -- The items of a commutative node whose first child takes one term: those where it takes each term, in turn.
 use Rattle.std.proofs.Common.{◌≡◌, ℕ, zero, suc, ◌+◌, List, [], ◌∷◌, ◌++◌, Bool, true, false, refl}
 use Rattle.std.proofs.Common.{ap, sym, ◌∙◌, subst, inl, inr, arith, append_assoc}
-use Rattle.std.specs.Prelude.{Option, Some, filter, flat_map, if◌then◌else◌}
+use Rattle.std.specs.Prelude.{◌&&◌, ◌⊎◌, Option, Some, filter, flat_map, if◌then◌else◌}
 use Rattle.std.specs.declared.cmp.Ordering.TheVariants.{Less}
 use Rattle.std.specs.List.{AllByRecursion}
 use Rattle.std.specs.List.Sorted.{IsStrictlySortedBy}
+use Rattle.std.proofs.lemmas.Bool.{and_from, and_parts}
 use Rattle.std.proofs.lemmas.List.Kept.{IsStrictlySortedBy-filter}
 use Rattle.mp_term.specs.Order.{tree_cmp}
 use Rattle.mp_term.specs.OrderLaws.{tree_cmp_total, tree_same}
@@ -13,7 +14,7 @@ use Rattle.mp_term.specs.Search.{In}
 use Rattle.mp_term.specs.Signature.{Sig}
 use Rattle.mp_term.specs.Tree.{Tree}
 use Rattle.mp_term.proofs.ListingLaws.{same_members}
-use Rattle.mp_term.proofs.PiecesLaws.{all-piece}
+use Rattle.mp_term.proofs.PiecesLaws.{all-piece, in-distinct, piece-accepts}
 use Rattle.mp_term.proofs.SearchLaws.{in-filter, from_in-filter, in-flat, from_in-flat}
 use Rattle.mp_term.proofs.SearchLaws.{all-from_in, flat_map-same, ascending-flat}
 use Rattle.mp_pattern.specs.DerivationOrder.{entry_cmp}
@@ -25,7 +26,7 @@ use Rattle.mp_pattern.specs.Value.{Subst}
 use Rattle.mp_pattern.specs.Variables.{comm_above}
 use Rattle.mp_theory.specs.Frames.{Frame, child}
 use Rattle.mp_theory.specs.Items.{items, items_by}
-use Rattle.mp_theory.specs.Machine.{entries, reads, choices}
+use Rattle.mp_theory.specs.Machine.{reads, choices}
 use Rattle.mp_theory.specs.Shape.{shape}
 use Rattle.mp_theory.proofs.CursorLaws.{pruned}
 use Rattle.mp_theory.proofs.Tables.{entries-ascending, entry_cmp_total, choices-ascending}
@@ -60,10 +61,18 @@ one-before : (e d : Entry) (t u : Tree) → e.terms ≡ t ∷ [] → d.terms ≡
     → entry_cmp e d ≡ Less
 one-before e d t u p q r = rw (p, q, r) refl
 
--- the list is one term that has the shape
-abbrev is_shaped : Pattern → List Tree → Bool
-is_shaped p (t ∷ []) = shape p t
-is_shaped p _ = false
+-- the list is one of the terms, which has the shape
+abbrev is_kept : Pattern → List Tree → List Tree → Bool
+is_kept p ts (t ∷ []) = shape p t && is_left ts t
+is_kept p ts _ = false
+
+in-left : (t : Tree) (ts : List Tree) → In t ts → is_left ts t ≡ true
+in-left t ts i = piece-accepts tree_cmp tree_cmp_total tree_same true (t ∷ []) ts
+    (in-distinct tree_cmp tree_cmp_total tree_same t ts i, refl)
+
+left-in : (t : Tree) (ts : List Tree) → is_left ts t ≡ true → In t ts
+left-in t ts l = (all-piece tree_cmp tree_cmp_total tree_same (λ u. In u ts) (t ∷ []) ts l
+    (all-from_in (λ u. In u ts) ts (λ u j. j))).0
 
 module _ (sig : Sig) where
   pub takes_one-syntactic : (p : Pattern) → takes_one sig p ≡ true → is_syntactic sig p ≡ true
@@ -136,9 +145,11 @@ module _ (sig : Sig) (g : ℕ) (p : Pattern) (ps : Patterns) (left : List Tree) 
             | false ↦ λ q. refl
           ] refl
 
-  -- the items are those where the first child takes each term that is left and has its shape, in turn
+  -- the items are those where the first child takes each of the terms, in turn, if no other one that is left and has
+  -- its shape gives any
   pub comm_list-first : comm_above sig (Some g) ≡ true → takes_one sig p ≡ true → (ts : List Tree)
-      → IsStrictlySortedBy tree_cmp ts → ((t : Tree) → In t left → shape p t ≡ true → In t ts)
+      → IsStrictlySortedBy tree_cmp ts
+      → ((t : Tree) → In t left → shape p t ≡ true → In t ts ⊎ (items_of sig g p ps left owes s t ≡ []))
       → comm_list sig g (more_patterns p ps) left owes s ≡ items_among sig g p ps left owes s ts
   unfolding comm_list
   comm_list-first comm one ts up all = from_nodes (pattern_nodes p + all_pattern_nodes ps) refl
@@ -158,28 +169,26 @@ module _ (sig : Sig) (g : ℕ) (p : Pattern) (ps : Patterns) (left : List Tree) 
           )
 
       kept-picked : (e : Entry)
-          → In e (filter (λ d. is_shaped p d.terms) (choices sig (child p here []))) → In e (flat_map picks ts)
+          → In e (filter (λ d. is_kept p ts d.terms) (choices sig (child p here []))) → In e (flat_map picks ts)
       kept-picked e i =
-          let k = from_in-filter (λ d. is_shaped p d.terms) e (choices sig (child p here [])) i in
+          let k = from_in-filter (λ d. is_kept p ts d.terms) e (choices sig (child p here [])) i in
           let m = choice-term e k.0 in
-          let h : shape p m.0 ≡ true = subst (λ l. is_shaped p l ≡ true) m.1 k.1 in
-          let within : In m.0 left =
-          (all-piece tree_cmp tree_cmp_total tree_same (λ u. In u left) (m.0 ∷ []) left m.2
-          (all-from_in (λ u. In u left) left (λ u j. j))).0 in
-          in-flat picks m.0 e ts (all m.0 within h) (in-picks m.0 e m.2 h m.1 m.3)
+          let h = and_parts (shape p m.0) (is_left ts m.0) (subst (λ l. is_kept p ts l ≡ true) m.1 k.1) in
+          in-flat picks m.0 e ts (left-in m.0 ts h.1) (in-picks m.0 e m.2 h.0 m.1 m.3)
 
       picked-kept : (e : Entry) → In e (flat_map picks ts)
-          → In e (filter (λ d. is_shaped p d.terms) (choices sig (child p here [])))
+          → In e (filter (λ d. is_kept p ts d.terms) (choices sig (child p here [])))
       picked-kept e i =
           let a = from_in-flat picks e ts i in
           let m = picks-parts a.0 e a.2 in
-          in-filter (λ d. is_shaped p d.terms) e (choices sig (child p here []))
+          in-filter (λ d. is_kept p ts d.terms) e (choices sig (child p here []))
           ((choices-exact sig p here [] e.terms e.collapsed).1 (
             subst (λ b. is_piece tree_cmp b e.terms left ≡ true) (sym comm)
                 (subst (λ l. is_piece tree_cmp true l left ≡ true) (sym m.2) m.0),
             m.3,
           ))
-          (subst (λ l. is_shaped p l ≡ true) (sym m.2) m.1)
+          (subst (λ l. is_kept p ts l ≡ true) (sym m.2)
+          (and_from (shape p a.0) (is_left ts a.0) m.1 (in-left a.0 ts a.1)))
 
       picked-ascending : IsStrictlySortedBy entry_cmp (flat_map picks ts)
       picked-ascending = ascending-flat tree_cmp entry_cmp picks ts up picks-ascending (λ t u less.
@@ -187,17 +196,30 @@ module _ (sig : Sig) (g : ℕ) (p : Pattern) (ps : Patterns) (left : List Tree) 
           all-from_in (λ d. entry_cmp e d ≡ Less) (picks u) (λ d k.
           one-before e d t u (picks-parts t e i).2 (picks-parts u d k).2 less)))
 
-      unshaped-none : (j : ℕ) → pattern_nodes p + all_pattern_nodes ps ≡ suc j → (e : Entry)
-          → In e (choices sig (child p here [])) → is_shaped p e.terms ≡ false
+      -- a choice that isn't kept leads to nothing
+      unkept-none : (j : ℕ) → pattern_nodes p + all_pattern_nodes ps ≡ suc j → (e : Entry)
+          → In e (choices sig (child p here [])) → is_kept p ts e.terms ≡ false
           → items_by sig j (child p here []) s e ≡ []
-      unshaped-none j n e i k =
-          let m = choice-term e i in
-          let h : shape p m.0 ≡ false = subst (λ l. is_shaped p l ≡ false) m.1 k in
-          flat-empty (items_by sig j (child p here []) s) e (filter (reads sig p (Some g)) (both m.0))
-          (in-filter (reads sig p (Some g)) e (both m.0)
-          (in-entries e.terms e.collapsed ((m.0 ∷ []) ∷ []) (inl m.1)) m.3)
-          (child-items sig p m.0 here [] j (all_pattern_nodes ps) s (takes_one-syntactic sig p one)
-          (takes_one-term sig (Some g) p one) n ∙ rw h refl)
+      unkept-none j n e i k = by_shape (shape p m.0) refl (subst (λ l. is_kept p ts l ≡ false) m.1 k)
+        where
+          m : (t : Tree) × (e.terms ≡ t ∷ []) × (is_left left t ≡ true) × (reads sig p (Some g) e ≡ true)
+          m = choice-term e i
+
+          gone : In m.0 ts ⊎ (items_of sig g p ps left owes s m.0 ≡ []) → shape p m.0 ≡ true → is_left ts m.0 ≡ false
+              → items_by sig j (child p here []) s e ≡ []
+          gone (inl among) h l = (let both : true ≡ false = sym (in-left m.0 ts among) ∙ l in cc)
+          gone (inr none) h l = flat-empty (items_by sig j (child p here []) s) e (picks m.0)
+              (in-picks m.0 e m.2 h m.1 m.3) (items-picks j m.0 one n ∙ none)
+
+          by_shape : (b : Bool) → shape p m.0 ≡ b → (b && is_left ts m.0) ≡ false
+              → items_by sig j (child p here []) s e ≡ []
+          by_shape true h l = gone (all m.0 (left-in m.0 left m.2) h) h l
+          by_shape false h l =
+              flat-empty (items_by sig j (child p here []) s) e (filter (reads sig p (Some g)) (both m.0))
+              (in-filter (reads sig p (Some g)) e (both m.0)
+              (in-entries e.terms e.collapsed ((m.0 ∷ []) ∷ []) (inl m.1)) m.3)
+              (child-items sig p m.0 here [] j (all_pattern_nodes ps) s (takes_one-syntactic sig p one)
+              (takes_one-term sig (Some g) p one) n ∙ rw h refl)
 
       from_nodes : (m : ℕ) → pattern_nodes p + all_pattern_nodes ps ≡ m
           → items sig m (child p here []) s ≡ items_among sig g p ps left owes s ts
@@ -205,8 +227,8 @@ module _ (sig : Sig) (g : ℕ) (p : Pattern) (ps : Patterns) (left : List Tree) 
       from_nodes (suc j) e =
           let F = items_by sig j (child p here []) s in
           let cs = choices sig (child p here []) in
-          let keep = λ (e : Entry). is_shaped p e.terms in
-          sym (pruned keep F cs (unshaped-none j e))
+          let keep = λ (e : Entry). is_kept p ts e.terms in
+          sym (pruned keep F cs (unkept-none j e))
           ∙ ap (flat_map F) (same_members entry_cmp entry_cmp_total (filter keep cs) (flat_map picks ts)
           (IsStrictlySortedBy-filter entry_cmp keep cs (choices-ascending sig (child p here [])))
           picked-ascending kept-picked picked-kept)

@@ -21,11 +21,17 @@ pub mod EntryLaws
 pub mod FirstChild
 pub mod AmongLaws
 pub mod SeekTail
+pub mod Parts
 pub mod PreparedLaws
 pub mod CandidateLaws
 pub mod PicksLaws
+pub mod ClashLaws
+pub mod TakingLaws
 pub mod SeekLaws
 pub mod SeekWith
 pub mod SeekEach
+pub mod NoneLaws
+pub mod WildLaws
+pub mod StarLaws
 pub mod SpentLaws
 pub mod BeginSearch

@@ -42,7 +42,7 @@ module _ (t : Table) (cs : List Rank) where
         (
           within,
           part-get (record { 0 = 0 }) (λ r. shape p (term_at t r) ≡ true) cs x.from x.at x.end k.0.0 k.0.1 h.0.within
-              h.0.candidates.shaped,
+              h.0.choices.shaped,
         ),
         picks-taken us w ps ks h.1 k.1,
       )

@@ -1,11 +1,11 @@
 -- What prepared patterns keep as others are added, and of what one is made.
 use Rattle.std.proofs.Common.{◌≡◌, ◌+◌, ◌<◌, ◌≤◌, ℕ, zero, suc, List, [], ◌∷◌, ◌++◌, map, take, drop, length, get_or}
 use Rattle.std.proofs.Common.{refl, ap, sym, subst, ◌∙◌, arith, inl, inr, Bool, true, false}
-use Rattle.std.specs.Prelude.{◌-◌, Option, Some, not, option_map, slice_get}
+use Rattle.std.specs.Prelude.{◌-◌, Option, Some, None, IsSome, not, option_and_then, option_map, slice_get}
 use Rattle.std.specs.List.{AllByRecursion}
 use Rattle.std.proofs.Math.Seq.{drop-append_seam}
-use Rattle.std.proofs.lemmas.List.{append-nil, append_assoc, map-append, length-append, length-drop, length-map}
-use Rattle.std.proofs.lemmas.List.{length-take-le, take_all, take_more, take-append-le, drop-append-le, drop-map}
+use Rattle.std.proofs.lemmas.List.{append_assoc, map-append, length-append, length-drop}
+use Rattle.std.proofs.lemmas.List.{length-take-le, take_all, drop-map}
 use Rattle.std.specs.Ordering.{is_eq}
 use Rattle.std.specs.Cmp.{Equal-is}
 use Rattle.mp_term.specs.Listing.{In}
@@ -25,11 +25,13 @@ use Rattle.mp_pattern.proofs.NameLaws.{same_name-is}
 use Rattle.mp_theory.proofs.FirstItems.{in-firsts_after}
 use Rattle.mp_theory.proofs.FirstsLaws.{from_in-firsts_after}
 use Rattle.mp_ac.specs.CommPlan.{IsCommPlanOf}
-use Rattle.mp_ac.specs.CommPlans.{AreAdded, AreTails, IsLast, IsLed, IsPrepared, child_at}
+use Rattle.mp_ac.specs.CommPlans.{AreAdded, AreLeads, AreTails, IsLast, IsLead, IsLed, IsPrepared, child_at}
 use Rattle.mp_ac.specs.TakesOne.{takes_one}
 use Rattle.mp_ac.specs.declared.comm_plan.CommPlan.{CommPlan}
 use Rattle.mp_ac.specs.declared.comm_plans.CommPlans.{CommPlans}
+use Rattle.mp_ac.specs.declared.comm_plans.Lead.{Lead}
 use Rattle.mp_ac.specs.declared.comm_plans.Prepared.{Prepared}
+use Rattle.mp_ac.proofs.Parts.{taken-more}
 
 -- patterns that compare as equal are the same tree
 pub equal-tree : (p q : declared.Pattern) → is_eq (pattern_cmp (pattern_tree p) (pattern_tree q)) ≡ true
@@ -62,31 +64,59 @@ found-more [] ds n q e = cc
 found-more (c ∷ cs) ds zero q e = e
 found-more (c ∷ cs) ds (suc n) q e = found-more cs ds n q e
 
-child_at-more : (x y : CommPlans) (cs : List declared.Pattern) (n : ℕ) (q : Pattern)
+pub child_at-more : (x y : CommPlans) (cs : List declared.Pattern) (n : ℕ) (q : Pattern)
     → y.children.items ≡ x.children.items ++ cs → child_at x n ≡ Some q → child_at y n ≡ Some q
 child_at-more x y cs n q e found =
     ap (λ l. option_map pattern_tree (slice_get l n)) e ∙ found-more x.children.items cs n q found
 
-map-found : (f g : ℕ → Option Pattern) → ((n : ℕ) (q : Pattern) → f n ≡ Some q → g n ≡ Some q)
-    → (ns : List ℕ) (qs : List Pattern) → map f ns ≡ map Some qs → map g ns ≡ map Some qs
-map-found f g more [] [] e = refl
-map-found f g more [] (q ∷ qs) e = cc
-map-found f g more (n ∷ ns) [] e = cc
-map-found f g more (n ∷ ns) (q ∷ qs) e =
-    let first : f n ≡ Some q = cc in
-    let rest : map f ns ≡ map Some qs = cc in
-    (λ i. more n q first i ∷ map-found f g more ns qs rest i)
+-- the next child, where there is one, is the same of more children
+next-more : (x y : CommPlans) (cs : List declared.Pattern) (next : Option ℕ)
+    → ((m : ℕ) → next ≡ Some m → IsSome (child_at x m)) → y.children.items ≡ x.children.items ++ cs
+    → option_and_then (child_at x) next ≡ option_and_then (child_at y) next
+next-more x y cs None held e = refl
+next-more x y cs (Some m) held e = by_found (child_at x m) refl (held m refl)
+  where
+    by_found : (o : Option Pattern) → child_at x m ≡ o → IsSome o → child_at x m ≡ child_at y m
+    by_found None found some = cc
+    by_found (Some q) found some = found ∙ sym (child_at-more x y cs m q e found)
 
--- the numbers of children stay theirs where there are more children
-map-child_at : (x y : CommPlans) (cs : List declared.Pattern) (ns : List ℕ) (qs : List Pattern)
-    → y.children.items ≡ x.children.items ++ cs → map (child_at x) ns ≡ map Some qs → map (child_at y) ns ≡ map Some qs
-map-child_at x y cs ns qs e = map-found (child_at x) (child_at y) (λ n q. child_at-more x y cs n q e) ns qs
+next_held-more : (x y : CommPlans) (cs : List declared.Pattern) (m : ℕ) → y.children.items ≡ x.children.items ++ cs
+    → IsSome (child_at x m) → IsSome (child_at y m)
+next_held-more x y cs m e some = by_found (child_at x m) refl some
+  where
+    by_found : (o : Option Pattern) → child_at x m ≡ o → IsSome o → IsSome (child_at y m)
+    by_found None found h = cc
+    by_found (Some q) found h = subst IsSome (sym (child_at-more x y cs m q e found)) refl
 
--- a part within a list is the same of a longer one
-pub taken-more : {X : Type 0} (i n : ℕ) (xs ys : List X) → i + n ≤ length xs
-    → take n (drop i (xs ++ ys)) ≡ take n (drop i xs)
-taken-more i n xs ys h = ap (take n) (drop-append-le i xs ys (omega (arith, h)))
-    ∙ take-append-le n (drop i xs) ys (omega (arith, h, length-drop i xs))
+-- leading children stand by their numbers where there are more children and leads
+pub lead-more : (x y : CommPlans) (cs : List declared.Pattern) (ls : List Lead) (n : ℕ) (p : Pattern)
+    (q : Option Pattern) → y.children.items ≡ x.children.items ++ cs → y.leads.items ≡ x.leads.items ++ ls
+    → IsLead x n p q → IsLead y n p q
+lead-more x y cs ls n p q children leads h = record {
+  lead = h.lead;
+  held = ap (λ l. slice_get l n) leads ∙ slice_get-found x.leads.items ls n h.lead h.held;
+  child = child_at-more x y cs h.lead.child p children h.child;
+  next = h.next ∙ next-more x y cs h.lead.next h.next_held children;
+  next_held = λ m is. next_held-more x y cs m children (h.next_held m is);
+}
+
+pub leads-more : (x y : CommPlans) (cs : List declared.Pattern) (ls : List Lead) (ns : List ℕ) (ps : List Pattern)
+    → y.children.items ≡ x.children.items ++ cs → y.leads.items ≡ x.leads.items ++ ls → AreLeads x ns ps
+    → AreLeads y ns ps
+leads-more x y cs ls [] [] children leads h = tt
+leads-more x y cs ls [] (p ∷ ps) children leads h = absurd h
+leads-more x y cs ls (n ∷ ns) [] children leads h = absurd h
+leads-more x y cs ls (n ∷ ns) (p ∷ ps) children leads h = (
+  lead-more x y cs ls n p (slice_get ps 0) children leads h.0,
+  leads-more x y cs ls ns ps children leads h.1,
+)
+
+-- there are as many numbers as leading children
+leads-length : (x : CommPlans) (ns : List ℕ) (ps : List Pattern) → AreLeads x ns ps → length ns ≡ length ps
+leads-length x [] [] h = refl
+leads-length x [] (p ∷ ps) h = absurd h
+leads-length x (n ∷ ns) [] h = absurd h
+leads-length x (n ∷ ns) (p ∷ ps) h = ap suc (leads-length x ns ps h.1)
 
 longer : {X : Type 0} (x y : X) (ys front : List X) → ys ≡ front ++ x ∷ [] → y ∷ ys ≡ (y ∷ front) ++ x ∷ []
 longer x y ys front e = ap (λ l. y ∷ l) e
@@ -127,35 +157,38 @@ trees-behind n xs = ap (map pattern_tree) (take_all (length xs - n) (drop n xs) 
     ∙ sym (drop-map pattern_tree n xs)
 
 -- what is prepared stays so
-pub prepared-kept : (sig : Sig) (x y : CommPlans) (cs : List declared.Pattern) (ns : List ℕ) (ts : List CommPlan)
-    (p : Pattern) (r : Prepared) → y.children.items ≡ x.children.items ++ cs → y.numbers.items ≡ x.numbers.items ++ ns
+pub prepared-kept : (sig : Sig) (x y : CommPlans) (cs : List declared.Pattern) (ls : List Lead) (ns : List ℕ)
+    (ts : List CommPlan) (p : Pattern) (r : Prepared) → y.children.items ≡ x.children.items ++ cs
+    → y.leads.items ≡ x.leads.items ++ ls → y.numbers.items ≡ x.numbers.items ++ ns
     → y.tails.items ≡ x.tails.items ++ ts → IsPrepared sig x p r → IsPrepared sig y p r
-prepared-kept sig x y cs ns ts p r children numbers tails h = record {
-  op = h.op;
-  children = h.children;
-  is = h.is;
-  few = h.few;
-  each = h.each;
-  numbered = ap (λ l. map (child_at y) (take r.count (drop r.from l))) numbers
-      ∙ ap (map (child_at y)) (taken-more r.from r.count x.numbers.items ns h.within)
-      ∙ map-child_at x y cs (take r.count (drop r.from x.numbers.items)) (take r.count (pattern_list h.children))
-      children h.numbered;
-  within = omega (arith, h.within, ap length numbers, length-append x.numbers.items ns);
-  plan = h.plan;
-  held = ap (λ l. slice_get l r.tail) tails ∙ slice_get-found x.tails.items ts r.tail h.plan h.held;
-  tail = h.tail;
-}
+prepared-kept sig x y cs ls ns ts p r children leads numbers tails h =
+    let same : take r.count (drop r.from x.numbers.items) ≡ take r.count (drop r.from y.numbers.items) =
+    sym (ap (λ l. take r.count (drop r.from l)) numbers ∙ taken-more r.from r.count x.numbers.items ns h.within) in
+    record {
+      op = h.op;
+      children = h.children;
+      is = h.is;
+      few = h.few;
+      each = h.each;
+      leads = subst (λ l. AreLeads y l (take r.count (pattern_list h.children))) same
+          (leads-more x y cs ls (take r.count (drop r.from x.numbers.items)) (take r.count (pattern_list h.children))
+          children leads h.leads);
+      within = omega (arith, h.within, ap length numbers, length-append x.numbers.items ns);
+      plan = h.plan;
+      held = ap (λ l. slice_get l r.tail) tails ∙ slice_get-found x.tails.items ts r.tail h.plan h.held;
+      tail = h.tail;
+    }
 
 -- and what stands by its numbers and the last plan is prepared
 pub prepared-last : (sig : Sig) (x : CommPlans) (front ns : List ℕ) (op : ℕ) (ps : List Pattern) (r : Prepared)
     → IsLed sig x.tails.items op ps r.count → x.numbers.items ≡ front ++ ns
-    → map (child_at x) ns ≡ map Some (take r.count ps) → r.from ≡ length front → r.tail + 1 ≡ length x.tails.items
+    → AreLeads x ns (take r.count ps) → r.from ≡ length front → r.tail + 1 ≡ length x.tails.items
     → IsPrepared sig x (app_pattern op (patterns ps)) r
 prepared-last sig x front ns op ps r led numbers found from last =
     let same = sym (pattern_list-patterns ps) in
     let plan = led.last.plan in
-    let count : length ns ≡ r.count = sym (length-map ns (child_at x)) ∙ ap length found
-    ∙ length-map (take r.count ps) Some ∙ length-take-le r.count ps led.few in
+    let count : length ns ≡ r.count =
+    leads-length x ns (take r.count ps) found ∙ length-take-le r.count ps led.few in
     let whole : length x.tails.items ≡ length led.last.front + 1 = ap length led.last.is
     ∙ length-append led.last.front (led.last.plan ∷ []) in
     let own : take r.count (drop r.from x.numbers.items) ≡ ns =
@@ -167,9 +200,8 @@ prepared-last sig x front ns op ps r led numbers found from last =
       is = refl;
       few = subst (λ qs. r.count ≤ length qs) same led.few;
       each = subst (λ qs. AllByRecursion (λ q. takes_one sig q ≡ true) (take r.count qs)) same led.each;
-      numbered = subst
-          (λ qs. map (child_at x) (take r.count (drop r.from x.numbers.items)) ≡ map Some (take r.count qs)) same
-          (ap (map (child_at x)) own ∙ found);
+      leads = subst (λ qs. AreLeads x (take r.count (drop r.from x.numbers.items)) (take r.count qs)) same
+          (subst (λ l. AreLeads x l (take r.count ps)) (sym own) found);
       within = omega (arith, count, from, ap length numbers, length-append front ns);
       plan = plan;
       held = ap (λ l. slice_get l r.tail) led.last.is
@@ -177,61 +209,52 @@ prepared-last sig x front ns op ps r led numbers found from last =
       tail = subst (λ qs. IsCommPlanOf sig (app_pattern op (patterns (drop r.count qs))) plan) same led.last.of;
     }
 
--- the numbers of children are below how many there are
-child_at-within : (cs : List declared.Pattern) (n : ℕ) (q : Pattern) → option_map pattern_tree (slice_get cs n) ≡ Some q
-    → n < length cs
-child_at-within [] n q e = cc
-child_at-within (c ∷ cs) zero q e = omega arith
-child_at-within (c ∷ cs) (suc n) q e = omega (arith, child_at-within cs n q e)
-
-pub numbers-within : (x : CommPlans) (ns : List ℕ) (qs : List Pattern) → map (child_at x) ns ≡ map Some qs
-    → AllByRecursion (λ n. n < length x.children.items) ns
-numbers-within x [] qs e = tt
-numbers-within x (n ∷ ns) [] e = cc
-numbers-within x (n ∷ ns) (q ∷ qs) e =
-    let first : child_at x n ≡ Some q = cc in
-    let rest : map (child_at x) ns ≡ map Some qs = cc in
-    (child_at-within x.children.items n q first, numbers-within x ns qs rest)
-
--- nothing is added
-pub added-none : (x : CommPlans) → AreAdded x x []
-added-none x = record {
-  children = ([], sym (append-nil x.children.items));
-  numbers = ([], sym (append-nil x.numbers.items), refl);
-  tails = refl;
-  list = refl;
-}
-
--- some children, and others behind them
-pub added-append : (x y z : CommPlans) (ps qs : List Pattern) → AreAdded x y ps → AreAdded y z qs
-    → AreAdded x z (ps ++ qs)
-added-append x y z ps qs first second =
-    let cs = first.children.0 in
-    let ns = first.numbers.0 in
-    let ms = second.numbers.0 in
+-- one in front of others
+pub added-before : (x y z : CommPlans) (ls : List Lead) (n m : ℕ) (lead : Lead) (p q : Pattern) (qs : List Pattern)
+    → y.children ≡ x.children → y.leads.items ≡ x.leads.items ++ ls → y.numbers.items ≡ x.numbers.items ++ n ∷ []
+    → y.tails ≡ x.tails → y.list ≡ x.list → slice_get y.leads.items n ≡ Some lead → child_at x lead.child ≡ Some p
+    → lead.next ≡ Some m → child_at x m ≡ Some q → AreAdded y z (q ∷ qs) → AreAdded x z (p ∷ q ∷ qs)
+added-before x y z ls n m lead p q qs children leads numbers tails list held first some second h =
+    let cs = h.children.0 in
+    let ks = h.leads.0 in
+    let ns = h.numbers.0 in
+    let its : child_at y m ≡ Some q =
+    ap (λ v. option_map pattern_tree (slice_get v.items m)) children ∙ second in
+    let own : IsLead y n p (Some q) = record {
+      lead = lead;
+      held = held;
+      child = ap (λ v. option_map pattern_tree (slice_get v.items lead.child)) children ∙ first;
+      next = sym (ap (option_and_then (child_at y)) some ∙ its);
+      next_held = λ k is. (let o : Some m ≡ Some k = sym some ∙ is in
+          let e : m ≡ k = cc in
+          subst (λ j. IsSome (child_at y j)) e (subst IsSome (sym its) refl));
+    } in
     record {
-      children = (
-        cs ++ second.children.0,
-        second.children.1 ∙ ap (λ l. l ++ second.children.0) first.children.1
-            ∙ append_assoc x.children.items cs second.children.0,
-      );
+      children = (cs, h.children.1 ∙ ap (λ v. v.items ++ cs) children);
+      leads = (ls ++ ks, h.leads.1 ∙ ap (λ l. l ++ ks) leads ∙ append_assoc x.leads.items ls ks);
       numbers = (
-        ns ++ ms,
-        second.numbers.1 ∙ ap (λ l. l ++ ms) first.numbers.1 ∙ append_assoc x.numbers.items ns ms,
-        map-append (child_at z) ns ms
-            ∙ (λ i. map-child_at y z second.children.0 ns ps second.children.1 first.numbers.2 i ++ second.numbers.2 i)
-            ∙ sym (map-append Some ps qs),
+        n ∷ ns,
+        h.numbers.1 ∙ ap (λ l. l ++ ns) numbers ∙ append_assoc x.numbers.items (n ∷ []) ns,
+        (lead-more y z cs ks n p (Some q) h.children.1 h.leads.1 own, h.numbers.2),
       );
-      tails = second.tails ∙ first.tails;
-      list = second.list ∙ first.list;
+      tails = h.tails ∙ tails;
+      list = h.list ∙ list;
     }
 
--- the children up to the next one
-pub trees-item : (xs : List declared.Pattern) (i : ℕ) (x : declared.Pattern) → i < length xs → x ≡ get_or xs i x
-    → map pattern_tree (take (i + 1) xs) ≡ map pattern_tree (take i xs) ++ pattern_tree x ∷ []
-trees-item xs i x few is = ap (map pattern_tree) (take_more xs i x few)
-    ∙ map-append pattern_tree (take i xs) (get_or xs i x ∷ [])
-    ∙ ap (λ y. map pattern_tree (take i xs) ++ pattern_tree y ∷ []) (sym is)
+-- with more children before them
+pub added-behind : (x y z : CommPlans) (cs : List declared.Pattern) (ps : List Pattern)
+    → y.children.items ≡ x.children.items ++ cs → y.leads ≡ x.leads → y.numbers ≡ x.numbers → y.tails ≡ x.tails
+    → y.list ≡ x.list → AreAdded y z ps → AreAdded x z ps
+added-behind x y z cs ps children leads numbers tails list h = record {
+  children = (
+    cs ++ h.children.0,
+    h.children.1 ∙ ap (λ l. l ++ h.children.0) children ∙ append_assoc x.children.items cs h.children.0,
+  );
+  leads = (h.leads.0, h.leads.1 ∙ ap (λ v. v.items ++ h.leads.0) leads);
+  numbers = (h.numbers.0, h.numbers.1 ∙ ap (λ v. v.items ++ h.numbers.0) numbers, h.numbers.2);
+  tails = h.tails ∙ tails;
+  list = h.list ∙ list;
+}
 
 -- the variables of some of the children, the last ones, are among those of all
 named-behind : (f : Option ℕ) (x : List ℕ) (n : ℕ) (ps : List Pattern)

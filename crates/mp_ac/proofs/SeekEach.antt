@@ -1,7 +1,7 @@
 -- Where a search stands among the terms that the first child may take.
 use Rattle.std.proofs.Common.{◌≡◌, ◌≤◌, ◌<◌, ◌+◌, ◌-◌, ℕ, List, [], ◌∷◌, ◌++◌, length, map, take, drop}
 use Rattle.std.proofs.Common.{Bool, true, false, refl, ap, ap₂, sym, ◌∙◌, subst, arith, append_assoc, ◌⊎◌, inl, inr}
-use Rattle.std.specs.Prelude.{nat_lt, slice_index_or, slice_set}
+use Rattle.std.specs.Prelude.{Option, nat_lt, slice_get, slice_index_or, slice_set}
 use Rattle.std.specs.List.{AllByRecursion}
 use Rattle.std.specs.List.Sorted.{IsStrictlySortedBy}
 use Rattle.std.specs.declared.cmp.Ordering.TheVariants.{Less}
@@ -21,6 +21,7 @@ use Rattle.mp_table.specs.Table.{HasRank, HasRanks, rank_cmp, term_at, terms_at}
 use Rattle.mp_table.specs.declared.rank.Rank.{Rank}
 use Rattle.mp_table.proofs.RankLaws.{rank_order}
 use Rattle.mp_subst.specs.Trail.{Trail}
+use Rattle.mp_subst.proofs.TrailLaws.{all-get}
 use Rattle.mp_theory.specs.OneList.{Item, item_tables}
 use Rattle.mp_theory.specs.Shape.{shape, table_of}
 use Rattle.mp_search.specs.declared.level.Level.{Level}
@@ -32,6 +33,7 @@ use Rattle.mp_search.specs.Wanted.{IsStanding}
 use Rattle.mp_ac.specs.declared.pick.Pick.{Pick}
 use Rattle.mp_ac.specs.declared.seek.Sought.{Sought}
 use Rattle.mp_ac.specs.Asked.{levels_table}
+use Rattle.mp_ac.specs.Candidates.{AreChoices, IsBarred}
 use Rattle.mp_ac.specs.CommList.{behind_table}
 use Rattle.mp_ac.specs.Numbered.{numbered_subst}
 use Rattle.mp_ac.specs.Seek.{ArePicksOf, IsFoundOf, IsLeading, IsPickOf, IsSought, items_of_pick, items_sought}
@@ -55,6 +57,15 @@ module _ (t : plain.Table) (up : IsStrictlySortedBy tree_cmp t.terms) where
   unfolding IsStrictlySortedBy
   terms-ascend [] h a = tt
   terms-ascend (r ∷ rs) h a = (terms-above r rs h.0 h.1 a.0, terms-ascend rs h.1 a.1)
+
+-- a term that has the child's shape is that of a choice, or barred
+pub choice-term : (t : plain.Table) (p : Pattern) (next : Option Pattern) (us : List Tree) (rs : List Rank)
+    → AreChoices t p next us rs → (u : Tree) → In u us → shape p u ≡ true → In u (terms_at t rs) ⊎ IsBarred next us p u
+choice-term t p next us rs h u i q =
+    elim (h.all u i q) [
+      | inl c ↦ inl (subst (λ v. In v (terms_at t rs)) c.2 (in-map (term_at t) c.0 rs c.1))
+      | inr barred ↦ inr barred
+    ]
 
 module _ (x : Sought) (p : Pattern) (ps : List Pattern) (rs : List Rank) where
   -- the rank of a place
@@ -80,8 +91,8 @@ module _ (x : Sought) (p : Pattern) (ps : List Pattern) (rs : List Rank) where
   pub record IsSeeking (own0 : Pick) (below0 : List Pick) (levels0 : List Level) (t : Trail) (mode0 : Mode)
       (own : Pick) (below : List Pick) (levels : List Level) (u : Trail) (mode : Mode) (at : ℕ) : Type 0 where
     pub within : own.from ≤ at
-    pub own_kept : (us : List Tree) → IsPickOf x.asked.table.now us x.width x.choices.now p own0
-        → IsPickOf x.asked.table.now us x.width x.choices.now p own
+    pub own_kept : (us : List Tree) → IsPickOf x.asked.table.now us x.width x.choices.now p (slice_get ps 0) own0
+        → IsPickOf x.asked.table.now us x.width x.choices.now p (slice_get ps 0) own
     pub below_kept : (us : List Tree) → ArePicksOf x.asked.table.now us x.width x.choices.now ps below0
         → ArePicksOf x.asked.table.now us x.width x.choices.now ps below
     pub rooms : map (λ k. k.rest.room) (own ∷ below) ≡ map (λ k. k.rest.room) (own0 ∷ below0)
@@ -100,8 +111,8 @@ module _ (x : Sought) (p : Pattern) (ps : List Pattern) (rs : List Rank) where
 
 -- where the choices of the first child are a part of the list
 module _ (x : Sought) (h : IsSought x) (p : Pattern) (lead : IsLeading x.asked.sig.now p) (ps : List Pattern)
-    (rs : List Rank) (t : Trail) (k : Pick)
-    (o : IsPickOf x.asked.table.now (terms_at x.asked.table.now rs) x.width x.choices.now p k) where
+    (leads : AllByRecursion (IsLeading x.asked.sig.now) ps) (rs : List Rank) (t : Trail) (k : Pick)
+    (o : IsPickOf x.asked.table.now (terms_at x.asked.table.now rs) x.width x.choices.now p (slice_get ps 0) k) where
   abbrev tb : plain.Table
   tb = x.asked.table.now
 
@@ -118,14 +129,14 @@ module _ (x : Sought) (h : IsSought x) (p : Pattern) (lead : IsLeading x.asked.s
   part i = take (k.end - i) (drop i x.choices.now)
 
   terms-up : IsStrictlySortedBy tree_cmp (terms_at tb (part k.from))
-  terms-up = terms-ascend tb h.asked.table.ascending (part k.from) o.candidates.ranks o.candidates.ascending
+  terms-up = terms-ascend tb h.asked.table.ascending (part k.from) o.choices.ranks o.choices.ascending
 
   -- all items are those of its terms
   all-among : all ≡ among (terms_at tb (part k.from))
   all-among = root-first x.asked.sig.now p ps (terms_at tb rs) x.asked.owes s x.asked.plan.now.pattern h.commutative
-      lead.takes_one (terms_at tb (part k.from)) terms-up (λ u i q.
-      let c = o.candidates.all u i q in
-      subst (λ v. In v (terms_at tb (part k.from))) c.2 (in-map (term_at tb) c.0 (part k.from) c.1))
+      lead.takes_one (λ q e. (all-get (IsLeading x.asked.sig.now) ps 0 q leads e).takes_one) (terms_at tb rs)
+      (terms_at tb (part k.from)) (λ u i. i) terms-up
+      (choice-term tb p (slice_get ps 0) (terms_at tb rs) (part k.from) o.choices)
 
   -- the first of them from a place on, and none at the end
   between-first : (i : ℕ) → i < k.end
@@ -144,11 +155,11 @@ module _ (x : Sought) (h : IsSought x) (p : Pattern) (lead : IsLeading x.asked.s
 
     pub place-shaped : shape p u ≡ true
     place-shaped = part-get (record { 0 = 0 }) (λ r. shape p (term_at tb r) ≡ true) x.choices.now k.from i k.end from l
-        o.within o.candidates.shaped
+        o.within o.choices.shaped
 
     pub place-held : HasRank tb (rank_at x p ps rs i)
     place-held = part-get (record { 0 = 0 }) (HasRank tb) x.choices.now k.from i k.end from l o.within
-        o.candidates.ranks
+        o.choices.ranks
 
     abbrev split : (us : List Rank) × (part k.from ≡ us ++ rank_at x p ps rs i ∷ part (i + 1))
     split = part-split (record { 0 = 0 }) x.choices.now k.from i k.end from l o.within
@@ -247,24 +258,25 @@ module _ (x : Sought) (h : IsSought x) (p : Pattern) (lead : IsLeading x.asked.s
     each-begin At o a m at e = absurd o
 
 -- a pick of another choice, with room for as much
-pub pick-moved : (t : plain.Table) (us : List Tree) (w : ℕ) (cs : List Rank) (p : Pattern) (k : Pick) (i : ℕ)
-    (r : Room Rank) → r.room ≡ k.rest.room → k.from ≤ i → i < k.end → IsPickOf t us w cs p k
-    → IsPickOf t us w cs p (record { from = k.from; end = k.end; at = i; rest = r })
-pick-moved t us w cs p k i r e a b o = record {
+pub pick-moved : (t : plain.Table) (us : List Tree) (w : ℕ) (cs : List Rank) (p : Pattern) (next : Option Pattern)
+    (k : Pick) (i : ℕ) (r : Room Rank) → r.room ≡ k.rest.room → k.from ≤ i → i < k.end → IsPickOf t us w cs p next k
+    → IsPickOf t us w cs p next (record { from = k.from; end = k.end; at = i; rest = r })
+pick-moved t us w cs p next k i r e a b o = record {
   onward = o.onward;
   within = o.within;
   at = λ l. (a, b);
-  candidates = o.candidates;
+  choices = o.choices;
   room = subst (λ n. w ≤ n) (sym e) o.room;
 }
 
 -- what comes of a search at the place
 module _ (x : Sought) (h : IsSought x) (p : Pattern) (lead : IsLeading x.asked.sig.now p) (ps : List Pattern)
-    (rs : List Rank) (t : Trail) (k0 k : Pick) (below0 below : List Pick) (ls0 ls : List Level) (u : Trail)
-    (mode0 mode : Mode) (at : ℕ) (v : IsSeeking x p ps rs k0 below0 ls0 t mode0 k below ls u mode at)
-    (begun : IsPickOf x.asked.table.now (terms_at x.asked.table.now rs) x.width x.choices.now p k0)
+    (leads : AllByRecursion (IsLeading x.asked.sig.now) ps) (rs : List Rank) (t : Trail) (k0 k : Pick)
+    (below0 below : List Pick) (ls0 ls : List Level) (u : Trail) (mode0 mode : Mode) (at : ℕ)
+    (v : IsSeeking x p ps rs k0 below0 ls0 t mode0 k below ls u mode at)
+    (begun : IsPickOf x.asked.table.now (terms_at x.asked.table.now rs) x.width x.choices.now p (slice_get ps 0) k0)
     (l : at < k.end) where
-  pub own-pick : IsPickOf x.asked.table.now (terms_at x.asked.table.now rs) x.width x.choices.now p k
+  pub own-pick : IsPickOf x.asked.table.now (terms_at x.asked.table.now rs) x.width x.choices.now p (slice_get ps 0) k
   own-pick = v.own_kept (terms_at x.asked.table.now rs) begun
 
   abbrev W0 : Table
@@ -292,7 +304,7 @@ module _ (x : Sought) (h : IsSought x) (p : Pattern) (lead : IsLeading x.asked.s
         (picks_table x.asked.table.now x.choices.now ps below1) (levels_table x.asked ls1)))
         (first-found mode0 mode W0 (table_at x p ps rs at below ls) V whole (items_at x p ps rs t at)
         (items_between x p ps rs t (at + 1) k.end) (v.ahead l) f
-        (behind-place x h p lead ps rs t k own-pick at v.within l V
+        (behind-place x h p lead ps leads rs t k own-pick at v.within l V
         (table-in (items_at x p ps rs t at) (V, here.0.0)
         (looked-in mode (table_at x p ps rs at below ls) (items_at x p ps rs t at) (V, here.0.0) here.0.1))) here)
 
@@ -311,8 +323,8 @@ module _ (x : Sought) (h : IsSought x) (p : Pattern) (lead : IsLeading x.asked.s
         (items_between x p ps rs t (at + 1) k.end) (v.ahead l) here in
         record {
           within = omega (arith, v.within);
-          own_kept = λ us i. pick-moved x.asked.table.now us x.width x.choices.now p k at r room v.within l
-              (v.own_kept us i);
+          own_kept = λ us i. pick-moved x.asked.table.now us x.width x.choices.now p (slice_get ps 0) k at r room
+              v.within l (v.own_kept us i);
           below_kept = λ us i. kept us (v.below_kept us i);
           rooms = ap₂ (λ (n : ℕ) ns. n ∷ ns) room rooms ∙ v.rooms;
           trail = same;
@@ -320,8 +332,8 @@ module _ (x : Sought) (h : IsSought x) (p : Pattern) (lead : IsLeading x.asked.s
           levels_hold = levels;
           onward = tt;
           standing = λ i. tt;
-          ahead = λ i. rest ∙ between-first x h p lead ps rs t k own-pick (at + 1) i;
-          none = λ i. rest ∙ between-none x h p lead ps rs t k own-pick (at + 1) i;
+          ahead = λ i. rest ∙ between-first x h p lead ps leads rs t k own-pick (at + 1) i;
+          none = λ i. rest ∙ between-none x h p lead ps leads rs t k own-pick (at + 1) i;
         }
 
 -- a list of one item, and what follows
@@ -339,8 +351,8 @@ front-set (z ∷ w ∷ xs) ys x e = absurd (omega (arith, e))
 pub picks-moved : (t : plain.Table) (us : List Tree) (w : ℕ) (cs : List Rank) (children : List own_pattern)
     (child : own_pattern) (later : List own_pattern) → children ≡ child ∷ later → (ks front back : List Pick)
     (d own1 : Pick) (back1 : List Pick) → ks ≡ front ++ back → length front ≡ 1
-    → (IsPickOf t us w cs (pattern_tree child) (slice_index_or front 0 d)
-    → IsPickOf t us w cs (pattern_tree child) own1)
+    → (IsPickOf t us w cs (pattern_tree child) (slice_get (map pattern_tree later) 0) (slice_index_or front 0 d)
+    → IsPickOf t us w cs (pattern_tree child) (slice_get (map pattern_tree later) 0) own1)
     → (ArePicksOf t us w cs (map pattern_tree later) back → ArePicksOf t us w cs (map pattern_tree later) back1)
     → ArePicksOf t us w cs (map pattern_tree children) ks
     → ArePicksOf t us w cs (map pattern_tree children) (slice_set front 0 own1 ++ back1)

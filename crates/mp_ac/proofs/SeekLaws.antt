@@ -1,17 +1,20 @@
 -- The items where the first child takes one term, and the parts of a list of choices.
 use Rattle.std.proofs.Common.{◌≡◌, ◌≤◌, ◌<◌, ◌+◌, ◌-◌, ℕ, zero, suc, List, [], ◌∷◌, ◌++◌, length, map, take, drop}
-use Rattle.std.proofs.Common.{Bool, true, false, refl, ap, sym, ◌∙◌, subst, arith, get_or, drop-cons}
-use Rattle.std.specs.Prelude.{Some, None, flat_map, slice_get, slice_index_or, option_map, if◌then◌else◌}
+use Rattle.std.proofs.Common.{Bool, true, false, refl, ap, sym, ◌∙◌, subst, arith, get_or, drop-cons, inl, inr}
+use Rattle.std.specs.Prelude.{◌⊎◌, Option, Some, None, flat_map, slice_get, slice_index_or, option_map, if◌then◌else◌}
 use Rattle.std.specs.List.{AllByRecursion}
 use Rattle.std.specs.List.Sorted.{IsStrictlySortedBy}
 use Rattle.std.proofs.lemmas.List.{append_cancel_left}
 use Rattle.std.proofs.lemmas.Option.{slice_get-map}
 use Rattle.mp_term.specs.Order.{tree_cmp}
+use Rattle.mp_term.specs.OrderLaws.{tree_cmp_total, tree_same}
 use Rattle.mp_term.specs.Pieces.{without}
 use Rattle.mp_term.specs.Search.{In}
 use Rattle.mp_term.specs.Signature.{Sig}
 use Rattle.mp_term.specs.Tree.{Tree}
-use Rattle.mp_term.proofs.SearchLaws.{from_in-map}
+use Rattle.mp_term.proofs.ListingLaws.{all_in}
+use Rattle.mp_term.proofs.PiecesLaws.{all-without}
+use Rattle.mp_term.proofs.SearchLaws.{all-from_in, from_in-map}
 use Rattle.mp_pattern.specs.Fits.{Table}
 use Rattle.mp_pattern.specs.PatternTree.{Pattern, symbol_pattern, app_pattern, wild_pattern, patterns, pattern_list}
 use Rattle.mp_pattern.specs.Value.{Subst}
@@ -23,6 +26,7 @@ use Rattle.mp_search.specs.declared.mode.Mode.{Mode}
 use Rattle.mp_search.specs.declared.mode.Mode.TheVariants.{First, After, At}
 use Rattle.mp_search.specs.Wanted.{IsStanding}
 use Rattle.mp_ac.specs.Asked.{root_list}
+use Rattle.mp_ac.specs.Candidates.{IsBarred}
 use Rattle.mp_ac.specs.CommList.{behind_table, comm_list}
 use Rattle.mp_ac.specs.Seek.{IsCommutative, IsFoundOf, root_by, with_children}
 use Rattle.mp_ac.specs.Stage.{looked_for}
@@ -30,6 +34,7 @@ use Rattle.mp_theory.specs.Items.{in_front}
 use Rattle.mp_ac.specs.TakesOne.{is_left, items_with, takes_one}
 use Rattle.mp_ac.proofs.AmongLaws.{behind-in_front, behind_table-among, in-table, items_by-filled}
 use Rattle.mp_ac.proofs.BehindLaws.{table-in}
+use Rattle.mp_ac.proofs.ClashLaws.{clash-filled}
 use Rattle.mp_ac.proofs.FirstChild.{comm_list-first}
 
 -- nothing, whatever a test says
@@ -37,20 +42,17 @@ nothing : (b : Bool) → (let none : List Item = [] in (if b then none else none
 nothing true = refl
 nothing false = refl
 
+-- what is left without a term was left
+pub in-without : (t : Tree) (left : List Tree) (u : Tree) → In u (without tree_cmp (t ∷ []) left) → In u left
+in-without t left u i = all_in (λ v. In v left) (without tree_cmp (t ∷ []) left) u
+    (all-without tree_cmp tree_cmp_total tree_same (λ v. In v left) (t ∷ []) left
+    (all-from_in (λ v. In v left) left (λ v j. j))) i
+
 -- the items of a root with a first child in front of its own
 module _ (sig : Sig) (p : Pattern) (ps : List Pattern) (left : List Tree) (owes : Bool) (s : Subst) where
   -- those of terms in turn
   abbrev pub root_among : Pattern → List Tree → List Item
   root_among q ts = flat_map (root_by sig q p ps left owes s) ts
-
-  -- they are those where it takes each of the terms that it may take, in turn
-  pub root-first : (q : Pattern) → IsCommutative sig q → takes_one sig p ≡ true → (ts : List Tree)
-      → IsStrictlySortedBy tree_cmp ts → ((t : Tree) → In t left → shape p t ≡ true → In t ts)
-      → root_list sig (with_children (p ∷ ps) q) left owes s ≡ root_among q ts
-  root-first (app_pattern g zs) comm one ts up all =
-      comm_list-first sig g p (patterns (ps ++ pattern_list zs)) left owes s comm one ts up all
-  root-first (symbol_pattern n) comm one ts up all = cc
-  root-first (wild_pattern w x) comm one ts up all = cc
 
   -- behind an item of a term are the others of the term and then those of the later ones
   pub root-behind : (q : Pattern) (us : List Tree) (t : Tree) (ws : List Tree) (V : Table)
@@ -97,6 +99,57 @@ module _ (sig : Sig) (p : Pattern) (ps : List Pattern) (left : List Tree) (owes 
       items_by-filled sig g p (patterns (ps ++ pattern_list zs)) left owes s t r l h f
   root-filled (symbol_pattern n) t r l h f = refl
   root-filled (wild_pattern w x) t r l h f = refl
+
+-- where the first child took a term that the next one bars, the later ones have no items
+module _ (sig : Sig) (p : Pattern) (t : Tree) (s r : Subst) (fills : filled sig p t s ≡ Some r) where
+  barred-none : (ps : List Pattern) → ((n : Pattern) → slice_get ps 0 ≡ Some n → takes_one sig n ≡ true)
+      → (q : Pattern) → IsCommutative sig q → (us : List Tree) → IsBarred (slice_get ps 0) us p t
+      → (left : List Tree) (owes : Bool) → ((u : Tree) → In u left → In u us)
+      → root_list sig (with_children ps q) left owes r ≡ []
+  unfolding IsStrictlySortedBy
+  barred-none [] next q comm us barred left owes within = absurd barred
+  barred-none (n ∷ ps) next (app_pattern g zs) comm us barred left owes within =
+      comm_list-first sig g n (patterns (ps ++ pattern_list zs)) left owes r comm (next n refl) [] tt
+      (λ v i h. inr (root-not_filled sig n ps left owes r (app_pattern g zs) v h
+      (clash-filled sig p n t v s r fills (barred v (within v i) h))))
+  barred-none (n ∷ ps) next (symbol_pattern m) comm us barred left owes within = cc
+  barred-none (n ∷ ps) next (wild_pattern w x) comm us barred left owes within = cc
+
+module _ (sig : Sig) (p : Pattern) (ps : List Pattern) (left : List Tree) (owes : Bool) (s : Subst) where
+  -- none where nothing comes of the later children
+  pub root-none : (q : Pattern) (t : Tree) → shape p t ≡ true
+      → ((r : Subst) → filled sig p t s ≡ Some r
+      → root_list sig (with_children ps q) (without tree_cmp (t ∷ []) left) owes r ≡ [])
+      → root_by sig q p ps left owes s t ≡ []
+  root-none q t h none = by_left (is_left left t) refl
+    where
+      by_filled : is_left left t ≡ true → (o : Option Subst) → filled sig p t s ≡ o
+          → root_by sig q p ps left owes s t ≡ []
+      by_filled l None f = root-not_filled sig p ps left owes s q t h f
+      by_filled l (Some r) f = root-filled sig p ps left owes s q t r l h f
+          ∙ ap (map (in_front (table_of p t))) (none r f)
+
+      by_left : (b : Bool) → is_left left t ≡ b → root_by sig q p ps left owes s t ≡ []
+      by_left true l = by_filled l (filled sig p t s) refl
+      by_left false l = root-not_left sig p ps left owes s q t l
+
+  -- the items are those where it takes each of the terms, in turn, if the next child bars each other one that is left
+  -- and has its shape
+  pub root-first : (q : Pattern) → IsCommutative sig q → takes_one sig p ≡ true
+      → ((n : Pattern) → slice_get ps 0 ≡ Some n → takes_one sig n ≡ true) → (us ts : List Tree)
+      → ((u : Tree) → In u left → In u us) → IsStrictlySortedBy tree_cmp ts
+      → ((t : Tree) → In t left → shape p t ≡ true → In t ts ⊎ IsBarred (slice_get ps 0) us p t)
+      → root_list sig (with_children (p ∷ ps) q) left owes s ≡ root_among sig p ps left owes s q ts
+  root-first (app_pattern g zs) comm one next us ts within up all =
+      comm_list-first sig g p (patterns (ps ++ pattern_list zs)) left owes s comm one ts up (λ t i h.
+      elim (all t i h) [
+        | inl among ↦ inl among
+        | inr barred ↦ inr (root-none (app_pattern g zs) t h (λ r f.
+            barred-none sig p t s r f ps next (app_pattern g zs) comm us barred (without tree_cmp (t ∷ []) left) owes
+            (λ u j. within u (in-without t left u j))))
+      ])
+  root-first (symbol_pattern n) comm one next us ts within up all = cc
+  root-first (wild_pattern w x) comm one next us ts within up all = cc
 
 -- nothing is found among no items
 pub none-found : (mode : Mode) (W : Table) (is : List Item) → is ≡ [] → looked_for mode W is ≡ []

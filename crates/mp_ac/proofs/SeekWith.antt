@@ -1,20 +1,16 @@
 -- The search where the first child takes the term of a rank, and the others what is left then.
-use Rattle.std.proofs.Common.{◌≡◌, ◌≤◌, ◌+◌, ◌*◌, ℕ, List, [], ◌∷◌, ◌++◌, length, map}
-use Rattle.std.proofs.Common.{Bool, true, false, refl, ap, sym, ◌∙◌, subst, arith}
-use Rattle.std.specs.Prelude.{None, Some, if◌then◌else◌}
+use Rattle.std.proofs.Common.{◌≡◌, ◌≤◌, ◌+◌, ◌-◌, ◌*◌, ℕ, List, [], ◌∷◌, ◌++◌, length, map, take, drop}
+use Rattle.std.proofs.Common.{Bool, true, false, refl, ap, sym, ◌∙◌, subst, arith, inl, inr}
+use Rattle.std.specs.Prelude.{Option, None, Some, slice_get}
 use Rattle.std.specs.List.{AllByRecursion}
 use Rattle.std.specs.List.Sorted.{IsSorted}
 use Rattle.std.proofs.lemmas.List.{length-map}
 use Rattle.mp_term.specs.Order.{tree_cmp}
-use Rattle.mp_term.specs.OrderLaws.{tree_cmp_total, tree_same}
 use Rattle.mp_term.specs.Pieces.{is_sublist, without}
 use Rattle.mp_term.specs.Search.{In}
 use Rattle.mp_term.specs.Size.{all_nodes}
 use Rattle.mp_term.specs.Tree.{Tree}
-use Rattle.mp_term.proofs.ListingLaws.{all_in}
-use Rattle.mp_term.proofs.PiecesLaws.{all-without}
-use Rattle.mp_term.proofs.SearchLaws.{all-from_in}
-use Rattle.mp_pattern.specs.Fits.{Table, arranged}
+use Rattle.mp_pattern.specs.Fits.{Table}
 use Rattle.mp_pattern.specs.PatternTree.{Pattern, symbol_pattern, app_pattern, wild_pattern}
 use Rattle.mp_pattern.specs.Size.{pattern_nodes}
 use Rattle.mp_pattern.specs.Value.{Subst}
@@ -34,13 +30,32 @@ use Rattle.mp_search.proofs.PoolLaws.{sorted-ranks}
 use Rattle.mp_ac.specs.declared.pick.Pick.{Pick}
 use Rattle.mp_ac.specs.declared.seek.Sought.{Sought}
 use Rattle.mp_ac.specs.Asked.{AreGiven, root_list}
+use Rattle.mp_ac.specs.Candidates.{AreChoices, IsBarred}
 use Rattle.mp_ac.specs.CommPlan.{IsApplication, nodes_below, root_op}
 use Rattle.mp_ac.specs.Seek.{ArePicksOf, IsFoundOf, IsSought, items_of_pick, items_sought, seek_cost}
 use Rattle.mp_ac.specs.Seek.{with_children}
 use Rattle.mp_theory.specs.Items.{in_front}
 use Rattle.mp_ac.specs.TakesOne.{is_left}
 use Rattle.mp_ac.specs.Stage.{looked_for}
-use Rattle.mp_ac.proofs.SeekLaws.{front-found, front-standing, none-found, root-filled, root-not_filled, root-not_left}
+use Rattle.mp_ac.proofs.SeekLaws.{front-found, front-standing, in-without, none-found, root-filled, root-not_filled}
+use Rattle.mp_ac.proofs.SeekLaws.{root-not_left}
+
+-- what is barred is barred among fewer terms
+barred-fewer : (next : Option Pattern) (us vs : List Tree) (p : Pattern) (t : Tree) → ((u : Tree) → In u us → In u vs)
+    → IsBarred next vs p t → IsBarred next us p t
+barred-fewer None us vs p t f h = h
+barred-fewer (Some q) us vs p t f h = λ v i s. h v (f v i) s
+
+-- choices among terms are choices among fewer
+pub choices-fewer : (t : plain.Table) (p : Pattern) (next : Option Pattern) (us vs : List Tree) (rs : List Rank)
+    → ((u : Tree) → In u us → In u vs) → AreChoices t p next vs rs → AreChoices t p next us rs
+choices-fewer t p next us vs rs f h = record {
+  ranks = h.ranks;
+  ascending = h.ascending;
+  shaped = h.shaped;
+  all = λ u i s. elim (h.all u (f u i) s)
+      [ inl c ↦ inl c | inr barred ↦ inr (barred-fewer next us vs p u f barred) ];
+}
 
 -- picks of terms are picks of terms among them
 pub picks-fewer : (t : plain.Table) (us vs : List Tree) (w : ℕ) (cs : List Rank) (ps : List Pattern) (ks : List Pick)
@@ -52,12 +67,7 @@ picks-fewer t us vs w cs (p ∷ ps) (k ∷ ks) f h = (
     onward = h.0.onward;
     within = h.0.within;
     at = h.0.at;
-    candidates = record {
-      ranks = h.0.candidates.ranks;
-      ascending = h.0.candidates.ascending;
-      shaped = h.0.candidates.shaped;
-      all = λ u i s. h.0.candidates.all u (f u i) s;
-    };
+    choices = choices-fewer t p (slice_get ps 0) us vs (take (k.end - k.from) (drop k.from cs)) f h.0.choices;
     room = h.0.room;
   },
   picks-fewer t us vs w cs ps ks f h.1,
@@ -143,11 +153,8 @@ module _ (x : Sought) (h : IsSought x) (left : List Rank)
 
           pub rest-picks : (w : ℕ) (cs : List Rank) (ks : List Pick) → ArePicksOf tb terms w cs ps ks
               → ArePicksOf tb (terms_at tb rest) w cs ps ks
-          rest-picks w cs ks = picks-fewer tb (terms_at tb rest) terms w cs ps ks (λ u i.
-              all_in (λ v. In v terms) (without tree_cmp (t ∷ []) terms) u
-              (all-without tree_cmp tree_cmp_total tree_same (λ v. In v terms) (t ∷ []) terms
-              (all-from_in (λ v. In v terms) terms (λ v j. j)))
-              (subst (In u) (sym rest-terms) i))
+          rest-picks w cs ks = picks-fewer tb (terms_at tb rest) terms w cs ps ks
+              (λ u i. in-without t terms u (subst (In u) (sym rest-terms) i))
 
           -- what the child and the others take of the trail's room
           pub cost-apart : 3 * pattern_nodes p + seek_cost x.asked ps rest ≤ seek_cost x.asked (p ∷ ps) left

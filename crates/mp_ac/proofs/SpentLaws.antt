@@ -1,24 +1,21 @@
 -- No item comes behind one where each child that takes one term took its last one, and one wildcard takes the rest.
-use Rattle.std.proofs.Common.{◌≡◌, ◌≤◌, ◌+◌, ◌-◌, ℕ, List, [], ◌∷◌, ◌++◌, length, map, take, drop, Bool, true, false}
-use Rattle.std.proofs.Common.{refl, ap, sym, ◌∙◌, subst, inl, inr, arith, append_assoc}
-use Rattle.std.specs.Prelude.{Option, Some, ◌&&◌, not, if◌then◌else◌}
-use Rattle.std.specs.Ordering.{is_eq}
+use Rattle.std.proofs.Common.{◌≡◌, ◌≤◌, ◌+◌, ◌-◌, ℕ, List, [], ◌∷◌, ◌++◌, length, map, take, drop, Bool, true}
+use Rattle.std.proofs.Common.{ap, sym, ◌∙◌, subst, arith, append_assoc}
+use Rattle.std.specs.Prelude.{Option, Some, slice_get}
 use Rattle.std.specs.List.{AllByRecursion}
 use Rattle.std.specs.List.Sorted.{IsStrictlySortedBy}
-use Rattle.std.proofs.lemmas.Bool.{and_parts}
 use Rattle.std.proofs.lemmas.List.{append_cancel_left, length-map, map-append}
 use Rattle.mp_term.specs.Order.{tree_cmp}
 use Rattle.mp_term.specs.OrderLaws.{tree_cmp_total, tree_same}
-use Rattle.mp_term.specs.Pieces.{is_sublist, same, without}
-use Rattle.mp_term.specs.Search.{In, Accepts}
+use Rattle.mp_term.specs.Pieces.{without}
+use Rattle.mp_term.specs.Search.{In}
 use Rattle.mp_term.specs.Signature.{Sig}
 use Rattle.mp_term.specs.Tree.{Tree}
 use Rattle.mp_term.proofs.ListingLaws.{all_in}
-use Rattle.mp_term.proofs.PiecesLaws.{all-without, same-sound, sublist-from_piece}
-use Rattle.mp_term.proofs.SearchLaws.{all-from_in, in-map}
-use Rattle.mp_pattern.specs.DerivationOrder.{table_cmp}
-use Rattle.mp_pattern.specs.Fits.{Table, is_left_out}
-use Rattle.mp_pattern.specs.PatternTree.{Wildcard, Pattern, wild_pattern, Patterns, no_patterns}
+use Rattle.mp_term.proofs.PiecesLaws.{all-without}
+use Rattle.mp_term.proofs.SearchLaws.{all-from_in}
+use Rattle.mp_pattern.specs.Fits.{Table}
+use Rattle.mp_pattern.specs.PatternTree.{Wildcard, Pattern, app_pattern, wild_pattern, Patterns, no_patterns}
 use Rattle.mp_pattern.specs.PatternTree.{more_patterns, patterns}
 use Rattle.mp_pattern.specs.Value.{Subst}
 use Rattle.mp_pattern.specs.Variables.{comm_above}
@@ -27,17 +24,14 @@ use Rattle.mp_table.specs.Table as plain
 use Rattle.mp_table.specs.Table.{IsTable, term_at, terms_at}
 use Rattle.mp_table.specs.declared.rank.Rank.{Rank}
 use Rattle.mp_subst.specs.Trail.{Trail}
-use Rattle.mp_theory.specs.Frames.{Frame, child, ended, refused, is_done}
+use Rattle.mp_subst.proofs.TrailLaws.{all-get}
 use Rattle.mp_theory.specs.Items.{in_front}
-use Rattle.mp_theory.specs.Machine.{choices, is_ended, onward}
-use Rattle.mp_theory.specs.OneList.{Item, item_tables}
+use Rattle.mp_theory.specs.OneList.{item_tables}
 use Rattle.mp_theory.specs.Shape.{shape, table_of}
-use Rattle.mp_theory.proofs.Walk.{choices-exact}
 use Rattle.mp_search.specs.declared.stage.Stage.TheVariants.{Standing}
 use Rattle.mp_ac.specs.declared.pick.Pick.{Pick}
 use Rattle.mp_ac.specs.declared.search.CommSearch.{CommSearch}
 use Rattle.mp_ac.specs.Asked.{root_list}
-use Rattle.mp_ac.specs.CommItems.{NoneTwice}
 use Rattle.mp_ac.specs.CommList.{behind_table, comm_list}
 use Rattle.mp_ac.specs.Numbered.{numbered_subst}
 use Rattle.mp_ac.specs.Planned.{plan_of}
@@ -47,76 +41,9 @@ use Rattle.mp_ac.specs.Spent.{IsLast, IsSpent}
 use Rattle.mp_ac.specs.Stage.{IsAmong, ahead_at}
 use Rattle.mp_ac.specs.TakesOne.{items_among}
 use Rattle.mp_ac.proofs.AmongLaws.{behind_table-among, behind_table-items_by, from_in-items_by, in-table}
-use Rattle.mp_ac.proofs.FirstChild.{comm_list-first}
-use Rattle.mp_ac.proofs.ListLaws.{item-parts}
-use Rattle.mp_ac.proofs.SeekEach.{terms-ascend}
-use Rattle.mp_ac.proofs.SeekLaws.{part-get, part-none, part-split}
-use Rattle.mp_ac.proofs.StepLaws.{comm_list-once}
-
--- a part of a list that leaves nothing is the list
-whole : (l ts : List Tree) → is_sublist tree_cmp l ts ≡ true → without tree_cmp l ts ≡ [] → l ≡ ts
-whole [] ts h e = sym e
-whole (u ∷ l) [] h e = cc
-whole (u ∷ l) (t ∷ ts) h e = by_first (same tree_cmp t u) refl h e (whole l ts)
-  where
-    by_first : (b : Bool) → same tree_cmp t u ≡ b
-        → (if b then is_sublist tree_cmp l ts else is_sublist tree_cmp (u ∷ l) ts) ≡ true
-        → (if b then without tree_cmp l ts else t ∷ without tree_cmp (u ∷ l) ts) ≡ []
-        → (is_sublist tree_cmp l ts ≡ true → without tree_cmp l ts ≡ [] → l ≡ ts) → u ∷ l ≡ t ∷ ts
-    by_first true q k f same_rest =
-        let one : t ≡ u = same-sound tree_cmp tree_cmp_total tree_same t u q in
-        ap (λ v. v ∷ l) (sym one) ∙ ap (λ us. t ∷ us) (same_rest k f)
-    by_first false q k f same_rest = cc
-
--- where all tables of a list are one, and none stands twice, nothing comes behind an item
-behind-one : (U W : Table) (is : List Item) → ((i : Item) → In i is → i.0 ≡ U) → NoneTwice (item_tables is)
-    → behind_table W is ≡ []
-behind-one U W [] h n = refl
-behind-one U W (i ∷ []) h n = elim (is_eq (table_cmp W i.0)) as (λ b. (if b then none else none) ≡ none)
-    [ true ↦ refl | false ↦ refl ]
-  where
-    none : List Item
-    none = []
-behind-one U W (i ∷ j ∷ is) h n = absurd (n.0 (inl (h i (inl refl) ∙ sym (h j (inr (inl refl))))))
-
-unset : (b : Bool) → not b ≡ true → b ≡ false
-unset true e = cc
-unset false e = refl
-
-module _ (sig : Sig) (g : ℕ) (w : Wildcard) (x : Option (List ℕ)) (left : List Tree) (owes : Bool) where
-  abbrev here : Frame
-  here = record { under = Some g; children = no_patterns; left = left; owes = owes }
-
-  -- behind the last child nothing is left
-  by_done : (ls : List Tree) (b : Bool) (T : Table)
-      → Accepts (choices sig) onward is_ended (if is_done ls b then ended else refused) T → (ls ≡ []) × (T ≡ [])
-  by_done [] true [] h = cc
-  by_done [] true (e ∷ T) h = absurd h.0
-  by_done [] false [] h = (refl, refl)
-  by_done [] false (e ∷ T) h = absurd h.0
-  by_done (t ∷ ts) b [] h = cc
-  by_done (t ∷ ts) b (e ∷ T) h = absurd h.0
-
-  -- a wildcard that is the last child takes all
-  wild-all : (T : Table) → Accepts (choices sig) onward is_ended (child (wild_pattern w x) here []) T
-      → T ≡ record { terms = left; collapsed = false } ∷ []
-  wild-all [] h = cc
-  wild-all (e ∷ T) h =
-      let c = (choices-exact sig (wild_pattern w x) here [] e.terms e.collapsed).0 h.0 in
-      let d = by_done (without tree_cmp e.terms left) (owes && not (is_left_out (wild_pattern w x) e.terms)) T h.1 in
-      let l : e.terms ≡ left = whole e.terms left
-      (sublist-from_piece tree_cmp tree_cmp_total tree_same (comm_above sig (Some g)) e.terms left c.0) d.0 in
-      let k : e.collapsed ≡ false = unset e.collapsed (and_parts (not e.collapsed) _ c.1).0 in
-      ap (λ U. e ∷ U) d.1 ∙ ap (λ ls. record { terms = ls; collapsed = e.collapsed } ∷ []) l
-      ∙ ap (λ b. record { terms = left; collapsed = b } ∷ []) k
-
-  -- so there is one item at most
-  wild-behind : (W : Table) (s : Subst)
-      → behind_table W (comm_list sig g (more_patterns (wild_pattern w x) no_patterns) left owes s) ≡ []
-  wild-behind W s =
-      let ps = more_patterns (wild_pattern w x) no_patterns in
-      behind-one (record { terms = left; collapsed = false } ∷ []) W (comm_list sig g ps left owes s)
-      (λ i m. wild-all i.0 (item-parts sig g ps left owes s i m).0) (comm_list-once sig g ps left owes s)
+use Rattle.mp_ac.proofs.SeekEach.{choice-term, terms-ascend}
+use Rattle.mp_ac.proofs.SeekLaws.{part-get, part-none, part-split, root-first}
+use Rattle.mp_ac.proofs.WildLaws.{wild-behind}
 
 module _ (t : plain.Table) (table : IsTable t) (sig : Sig) (g : ℕ) (comm : comm_above sig (Some g) ≡ true)
     (w : Wildcard) (x : Option (List ℕ)) (us : List Tree) (n : ℕ) (cs : List Rank) where
@@ -144,12 +71,15 @@ module _ (t : plain.Table) (table : IsTable t) (sig : Sig) (g : ℕ) (comm : com
       let terms : terms_at t part ≡ terms_at t split.0 ++ u ∷ [] =
       ap (terms_at t) (split.1 ∙ ap (λ rs. split.0 ++ r ∷ rs) (part-none d cs (k.at + 1) k.end ended))
       ∙ map-append (term_at t) split.0 (r ∷ []) in
-      let up = terms-ascend t table.ascending part o.0.candidates.ranks o.0.candidates.ascending in
+      let up = terms-ascend t table.ascending part o.0.choices.ranks o.0.choices.ascending in
       let shaped : shape p u ≡ true = part-get d (λ q. shape p (term_at t q) ≡ true) cs k.from k.at k.end c.0.0 c.0.1
-      o.0.within o.0.candidates.shaped in
-      let first = comm_list-first sig g p qs left owes s comm lead.0.takes_one (terms_at t part) up (λ v i q.
-      let a = o.0.candidates.all v (all_in (λ y. In y us) left v within i) q in
-      subst (λ y. In y (terms_at t part)) a.2 (in-map (term_at t) a.0 part a.1)) in
+      o.0.within o.0.choices.shaped in
+      let given = λ (v : Tree) (i : In v left). all_in (λ y. In y us) left v within i in
+      let first : comm_list sig g (more_patterns p qs) left owes s
+      ≡ items_among sig g p qs left owes s (terms_at t part) =
+      root-first sig p ps left owes s (app_pattern g (more_patterns (wild_pattern w x) no_patterns)) comm
+      lead.0.takes_one (λ q e. (all-get (IsLeading sig) ps 0 q lead.1 e).takes_one) us (terms_at t part) given up
+      (λ v i. choice-term t p (slice_get ps 0) us part o.0.choices v (given v i)) in
       let assoc = append_assoc T (picks_table t cs ps ks) W in
       let among : In (T ++ U) (item_tables (items_among sig g p qs left owes s (terms_at t part))) =
       subst (λ V. In V (item_tables (items_among sig g p qs left owes s (terms_at t part)))) assoc

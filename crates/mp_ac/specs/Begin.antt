@@ -1,17 +1,19 @@
 -- How a search begins.
-use Rattle.std.specs.Prelude.{◌≡◌, ℕ, true, List, ◌++◌, map, Some}
+use Rattle.std.specs.Prelude.{◌≡◌, ◌⊎◌, ℕ, true, List, [], ◌∷◌, ◌++◌, slice_get}
 use Rattle.std.specs.List.{AllByRecursion}
 use Rattle.std.specs.List.Sorted.{IsSorted}
 use Rattle.mp_term.specs.Signature.{Sig}
 use Rattle.mp_pattern.specs.PatternTree.{Pattern, app_pattern, patterns}
+use Rattle.mp_term.specs.Tree.{Tree}
+use Rattle.mp_table.specs.declared.rank.Rank.{Rank}
 use Rattle.mp_table.specs.Table.{Table, HasRank, HasRanks, rank_cmp, term_at, terms_at}
 use Rattle.mp_ac.specs.declared.begin.Node.{Node}
 use Rattle.mp_ac.specs.Args.{args_of}
 use Rattle.mp_ac.specs.declared.comm_plan.CommPlan.{CommPlan}
 use Rattle.mp_ac.specs.declared.comm_plans.CommPlans.{CommPlans}
-use Rattle.mp_ac.specs.Candidates.{given_terms}
+use Rattle.mp_ac.specs.Candidates.{AreChoices, given_terms}
 use Rattle.mp_ac.specs.CommPlan.{IsCommPlanOf}
-use Rattle.mp_ac.specs.CommPlans.{child_at}
+use Rattle.mp_ac.specs.CommPlans.{AreLeads}
 use Rattle.mp_ac.specs.TakesOne.{takes_one}
 
 -- the node is the table's, and what its children take together stands in order
@@ -28,5 +30,20 @@ pub record AreParts (sig : Sig) (x : CommPlans) (p : Pattern) (ns : List ℕ) (c
   pub others : List Pattern
   pub is : p ≡ app_pattern op (patterns (leading ++ others))
   pub each : AllByRecursion (λ q. takes_one sig q ≡ true) leading
-  pub numbered : map (child_at x) ns ≡ map Some leading
+  pub leads : AreLeads x ns leading
   pub plan : IsCommPlanOf sig (app_pattern op (patterns others)) c
+
+-- one of these leading children has no choice among the terms
+abbrev pub IsBlocked : Table → List Tree → List Pattern → Type 0
+IsBlocked t us [] = ⊥
+IsBlocked t us (p ∷ ps) =
+    (rs : List Rank) × AreChoices t p (slice_get ps 0) us rs × ((rs ≡ []) ⊎ IsBlocked t us ps)
+
+-- one of the pattern's leading children has no choice among the terms
+pub record AreNone (sig : Sig) (t : Table) (p : Pattern) (us : List Tree) : Type 0 where
+  pub op : ℕ
+  pub leading : List Pattern
+  pub others : List Pattern
+  pub is : p ≡ app_pattern op (patterns (leading ++ others))
+  pub each : AllByRecursion (λ q. takes_one sig q ≡ true) leading
+  pub blocked : IsBlocked t us leading

@@ -1,5 +1,5 @@
 -- The terms that a child may take, of those that the children of a node take together.
-use Rattle.std.specs.Prelude.{◌≡◌, ◌≤◌, ◌-◌, ℕ, Bool, true, false, List, [], ◌∷◌, take, drop, length, slice_get}
+use Rattle.std.specs.Prelude.{◌≡◌, ◌≤◌, ◌-◌, ◌⊎◌, ℕ, Bool, true, false, List, [], ◌∷◌, take, drop, length, slice_get}
 use Rattle.std.specs.Prelude.{Option, Some, None, nat_eq, if◌then◌else◌}
 use Rattle.std.specs.List.{AllByRecursion}
 use Rattle.std.specs.List.Sorted.{IsStrictlySortedBy}
@@ -10,7 +10,8 @@ use Rattle.mp_table.specs.Subterms.{arguments}
 use Rattle.mp_table.specs.Table.{Table, HasRanks, rank_cmp, term_at}
 use Rattle.mp_table.specs.declared.rank.Rank.{Rank}
 use Rattle.mp_theory.specs.Shape.{shape}
-use Rattle.mp_ac.specs.CommPlans.{child_at}
+use Rattle.mp_ac.specs.Clash.{clash}
+use Rattle.mp_ac.specs.CommPlans.{child_at, IsLead}
 use Rattle.mp_ac.specs.declared.candidates.Candidates.{Candidates}
 use Rattle.mp_ac.specs.declared.candidates.Found.{Found}
 use Rattle.mp_ac.specs.declared.comm_plans.CommPlans.{CommPlans}
@@ -26,22 +27,41 @@ pub record AreCandidates (t : Table) (p : Pattern) (us : List Tree) (rs : List R
   pub shaped : AllByRecursion (λ r. shape p (term_at t r) ≡ true) rs
   pub all : (u : Tree) → In u us → shape p u ≡ true → (r : Rank) × In r rs × (term_at t r ≡ u)
 
--- what is kept of the child of the number: a part of the ranks, and where a node was asked they are the child's
--- candidates there
-pub record IsFound (t : Table) (plans : CommPlans) (rs : List Rank) (n : ℕ) (e : Found) : Type 0 where
+-- where the child takes the tree, none of the terms that the next child may take goes with it
+abbrev pub IsBarred : Option Pattern → List Tree → Pattern → Tree → Type 0
+IsBarred None us p u = ⊥
+IsBarred (Some q) us p u = (v : Tree) → In v us → shape q v ≡ true → clash p u q v ≡ true
+
+-- the ranks ascend, their terms have the child's shape, and each of the terms that has it is among them, or barred by
+-- the next child, if there is one
+pub record AreChoices (t : Table) (p : Pattern) (next : Option Pattern) (us : List Tree) (rs : List Rank) : Type 0 where
+  pub ranks : HasRanks t rs
+  pub ascending : IsStrictlySortedBy rank_cmp rs
+  pub shaped : AllByRecursion (λ r. shape p (term_at t r) ≡ true) rs
+  pub all : (u : Tree) → In u us → shape p u ≡ true → ((r : Rank) × In r rs × (term_at t r ≡ u)) ⊎ IsBarred next us p u
+
+-- what is kept under a number: a part of the ranks, of which something is known where a node was asked
+pub record IsFound (t : Table) (P : List Tree → List Rank → Type 0) (rs : List Rank) (e : Found) : Type 0 where
   pub onward : e.from ≤ e.end
   pub within : e.end ≤ length rs
-  pub candidates : (node : Rank) (p : Pattern) → e.node ≡ Some node → child_at plans n ≡ Some p
-      → AreCandidates t p (given_terms (term_at t node) e.alone) (take (e.end - e.from) (drop e.from rs))
+  pub known : (node : Rank) → e.node ≡ Some node
+      → P (given_terms (term_at t node) e.alone) (take (e.end - e.from) (drop e.from rs))
 
--- so it is with each of the entries
+-- so it is with each entry of children: they are the child's candidates
 abbrev pub AreEntries : Table → CommPlans → List Rank → List Found → Type 0
-AreEntries t plans rs es = (n : ℕ) (e : Found) → slice_get es n ≡ Some e → IsFound t plans rs n e
+AreEntries t plans rs es = (n : ℕ) (e : Found) (p : Pattern) → slice_get es n ≡ Some e → child_at plans n ≡ Some p
+    → IsFound t (AreCandidates t p) rs e
+
+-- and with each entry of leading children, each with the next one: they are its choices
+abbrev pub AreLeadEntries : Table → CommPlans → List Rank → List Found → Type 0
+AreLeadEntries t plans rs es = (n : ℕ) (e : Found) (p : Pattern) (next : Option Pattern) → slice_get es n ≡ Some e
+    → IsLead plans n p next → IsFound t (AreChoices t p next) rs e
 
 -- the ranks are those of the table, and the parts of them what they are kept for
 pub record AreFound (t : Table) (plans : CommPlans) (x : Candidates) : Type 0 where
   pub ranks : HasRanks t x.ranks.items
   pub entries : AreEntries t plans x.ranks.items x.entries.items
+  pub leads : AreLeadEntries t plans x.ranks.items x.leads.items
 
 -- the rank is the last one
 abbrev pub is_same : Option Rank → Rank → Bool

@@ -13,9 +13,11 @@ pub mod Search
 pub mod Matcher
 pub mod TakesOne
 pub mod CommPlans
+pub mod Clash
 pub mod Candidates
 pub mod Seek
 pub mod Planned
 pub mod Store
 pub mod Begin
 pub mod Spent
+pub mod Star

@@ -1,7 +1,7 @@
 -- What a search for the items of a commutative node goes by, where its first children take one term each and the others
 -- have a plan of their own.
 use Rattle.std.specs.Prelude.{◌≡◌, ◌<◌, ◌≤◌, ◌-◌, ⊤, ℕ, Bool, true, List, [], ◌∷◌, ◌++◌, take, drop, length, map}
-use Rattle.std.specs.Prelude.{Some, slice_index_or, MatchBool, slice_get}
+use Rattle.std.specs.Prelude.{Option, Some, slice_index_or, MatchBool, slice_get}
 use Rattle.std.specs.List.{AllByRecursion}
 use Rattle.mp_term.specs.Listing.{In}
 use Rattle.mp_term.specs.Signature.{Sig}
@@ -25,7 +25,7 @@ use Rattle.mp_ac.specs.declared.asked.Asked.{Asked}
 use Rattle.mp_ac.specs.declared.pick.Pick.{Pick}
 use Rattle.mp_ac.specs.declared.seek.Sought.{Sought}
 use Rattle.mp_ac.specs.Asked.{IsAsked, cost, levels_table, root_list}
-use Rattle.mp_ac.specs.Candidates.{AreCandidates}
+use Rattle.mp_ac.specs.Candidates.{AreChoices}
 use Rattle.mp_ac.specs.CommItems.{SameValues}
 use Rattle.mp_ac.specs.CommList.{behind_table}
 use Rattle.mp_ac.specs.CommPlan.{IsNumbered, root_op}
@@ -56,20 +56,21 @@ picks_table t cs (p ∷ ps) (k ∷ ks) = table_of p (term_at t (picked cs k)) ++
 abbrev pub sought_table : Asked → List Rank → List Pattern → List Pick → List Level → fits.Table
 sought_table a cs ps ks ls = picks_table a.table.now cs ps ks ++ levels_table a ls
 
--- the choices of the child are a part of the list, its candidates among the terms, of which one is picked if there is
--- any; and there is room for so many ranks
-pub record IsPickOf (t : Table) (us : List Tree) (w : ℕ) (cs : List Rank) (p : Pattern) (k : Pick) : Type 0 where
+-- the choices of the child, behind which the next one stands, are a part of the list, of which one is picked if there
+-- is any; and there is room for so many ranks
+pub record IsPickOf (t : Table) (us : List Tree) (w : ℕ) (cs : List Rank) (p : Pattern) (next : Option Pattern)
+    (k : Pick) : Type 0 where
   pub onward : k.from ≤ k.end
   pub within : k.end ≤ length cs
   pub at : k.from < k.end → (k.from ≤ k.at) × (k.at < k.end)
-  pub candidates : AreCandidates t p us (take (k.end - k.from) (drop k.from cs))
+  pub choices : AreChoices t p next us (take (k.end - k.from) (drop k.from cs))
   pub room : w ≤ k.rest.room
 
 -- so it is with each of the children
 abbrev pub ArePicksOf : Table → List Tree → ℕ → List Rank → List Pattern → List Pick → Type 0
 ArePicksOf t us w cs [] ks = ⊤
 ArePicksOf t us w cs (p ∷ ps) [] = ⊥
-ArePicksOf t us w cs (p ∷ ps) (k ∷ ks) = IsPickOf t us w cs p k × ArePicksOf t us w cs ps ks
+ArePicksOf t us w cs (p ∷ ps) (k ∷ ks) = IsPickOf t us w cs p (slice_get ps 0) k × ArePicksOf t us w cs ps ks
 
 -- each of the children takes one of its choices
 abbrev pub ArePicked : List Pattern → List Pick → Type 0

@@ -1,6 +1,5 @@
 //! How a search begins: the children that it goes through one by one, and the terms that these may take.
-ghost use Rattle.std.specs.Prelude.{◌≡◌, ◌≤◌, ◌<◌, length, map, Some, IfOk, OnOk, List};
-ghost use Rattle.std.specs.List.{AllByRecursion};
+ghost use Rattle.std.specs.Prelude.{◌≡◌, ◌≤◌, length, IfOk, MatchOption, OnOk, List};
 ghost use Rattle.mp_term.specs.Order.{tree_cmp};
 ghost use Rattle.mp_term.specs.Signature.{Sig};
 ghost use Rattle.mp_term.specs.Size.{all_nodes};
@@ -11,10 +10,10 @@ ghost use Rattle.mp_pattern.specs.View.{pattern_tree};
 ghost use Rattle.mp_table.specs.Table.{HasRank, HasRanks, IsTable, term_at, terms_at};
 ghost use Rattle.mp_search.specs.Grounds.{AreGrounds};
 ghost use Rattle.mp_ac.specs.Args as plain;
-ghost use Rattle.mp_ac.specs.Begin.{AreParts, IsNodeOf};
+ghost use Rattle.mp_ac.specs.Begin.{AreNone, AreParts, IsBlocked, IsNodeOf};
 ghost use Rattle.mp_ac.specs.Candidates.{given_terms};
 ghost use Rattle.mp_ac.specs.CommPlan.{IsCommPlanOf, IsNumberedPattern, nodes_below};
-ghost use Rattle.mp_ac.specs.CommPlans.{IsPrepared, child_at};
+ghost use Rattle.mp_ac.specs.CommPlans.{AreLeads, IsPrepared};
 ghost use Rattle.mp_ac.specs.CommRoom.{IsOfTable, IsRoomFor};
 ghost use Rattle.mp_ac.specs.Planned.{plan_of};
 ghost use Rattle.mp_ac.specs.Seek.{ArePicksOf};
@@ -75,22 +74,26 @@ impl<'a> Node<'a> {
     }
 }
 
-// Whether the children of these numbers may take few combinations of terms.
-fn are_few(
+// How many combinations of their choices the leading children of these numbers may take, or more than few. It is 0
+// only where one of them has no choice.
+fn ways(
     store: &mut CommStore,
     table: &Table,
     plans: &CommPlans,
     node: Node<'_>,
     numbers: &[u32],
-) -> Result<bool, Memory>
+) -> Result<usize, Memory>
+    requires table { IsTable table.now }
     requires node { IsNodeOf table.now node }
-    requires numbers { AllByRecursion (λ n. n < length plans.now.children.items) numbers.now }
+    requires numbers { (ps : List plain_pattern) × AreLeads plans.now numbers.now ps }
     requires store { IsStoreOf table.now plans.now store.old }
+    ensures none { IfOk result (λ n. n ≡ 0 → (ps : List plain_pattern) → AreLeads plans.now numbers.now ps
+        → IsBlocked table.now (given_terms (term_at table.now node.entry.node) node.entry.alone) ps) }
     ensures store { OnOk result (IsStoreOf table.now plans.now store.new) }
 {
     let mut ways: usize = 1;
     for number in numbers {
-        let (from, end) = store.candidates.fill(
+        let (from, end) = store.candidates.choices(
             table,
             plans,
             node.node,
@@ -99,14 +102,14 @@ fn are_few(
             *number,
         )?;
         ways = ways.saturating_mul(end - from);
-        if ways > FEW {
-            return Ok(false);
+        if ways == 0 || ways > FEW {
+            return Ok(ways);
         }
     }
-    Ok(true)
+    Ok(ways)
 }
 
-// Puts the terms that the children of these numbers may take into the room, and picks the first of each.
+// Puts the choices of the leading children of these numbers into the room, and picks the first of each.
 fn set_choices(
     store: &mut CommStore,
     table: &Table,
@@ -115,14 +118,15 @@ fn set_choices(
     numbers: &[u32],
     room: &mut CommRoom,
 ) -> Result<(), Memory>
+    requires table { IsTable table.now }
     requires node { IsNodeOf table.now node }
-    requires numbers { AllByRecursion (λ n. n < length plans.now.children.items) numbers.now }
+    requires numbers { (ps : List plain_pattern) × AreLeads plans.now numbers.now ps }
     requires store { IsStoreOf table.now plans.now store.old }
     requires room { IsOfTable table.now room.old }
     requires children { length numbers.now ≤ length room.old.picks.items }
     ensures store { OnOk result (IsStoreOf table.now plans.now store.new) }
     ensures room { OnOk result (IsOfTable table.now room.new) }
-    ensures picks { OnOk result ((ps : List plain_pattern) → map (child_at plans.now) numbers.now ≡ map Some ps
+    ensures picks { OnOk result ((ps : List plain_pattern) → AreLeads plans.now numbers.now ps
         → ArePicksOf table.now (terms_at table.now (plain.args_of node.entry.args)) room.new.width
         room.new.choices.items ps room.new.picks.items) }
     ensures choices { OnOk result (HasRanks table.now room.new.choices.items) }
@@ -131,7 +135,7 @@ fn set_choices(
 {
     room.choices.clear();
     for (index, number) in numbers.iter().enumerate() {
-        let (from, end) = store.candidates.fill(
+        let (from, end) = store.candidates.choices(
             table,
             plans,
             node.node,
@@ -151,7 +155,7 @@ fn set_choices(
 }
 
 // The numbers of the leading children that a search goes through one by one, and the plan of the others: of all leading
-// children where these may take few combinations of terms, and else of none.
+// children where these may take few combinations of terms, and else of none. None says that there is no item.
 pub(crate) fn parts<'a>(
     alloc: Global,
     store: &mut CommStore,
@@ -161,23 +165,31 @@ pub(crate) fn parts<'a>(
     pattern: &Pattern,
     table: &Table,
     node: Node<'_>,
-) -> Result<(&'a [u32], Planned<'a>), Memory>
+) -> Result<Option<(&'a [u32], Planned<'a>)>, Memory>
+    requires table { IsTable table.now }
     requires pattern { IsNumberedPattern (pattern_tree pattern.now) }
     requires prepared { IsPrepared sig.now plans.now (pattern_tree pattern.now) prepared }
     requires node { IsNodeOf table.now node }
     requires store { IsStoreOf table.now plans.now store.old }
-    ensures parts { IfOk result (λ r. AreParts sig.now plans.now (pattern_tree pattern.now) r.0.now (plan_of r.1)) }
+    ensures parts { IfOk result (λ o. MatchOption o
+        (AreNone sig.now table.now (pattern_tree pattern.now)
+        (given_terms (term_at table.now node.entry.node) node.entry.alone))
+        (λ r. AreParts sig.now plans.now (pattern_tree pattern.now) r.0.now (plan_of r.1))) }
     ensures store { OnOk result (IsStoreOf table.now plans.now store.new) }
 {
     let Some(tail) = plans.tail(prepared) else {
         unreachable!()
     };
     let numbers = plans.numbers_of(prepared);
-    if are_few(store, table, plans, node, numbers)? {
-        return Ok((numbers, Planned::Kept(tail)));
+    let ways = ways(store, table, plans, node, numbers)?;
+    if ways == 0 {
+        return Ok(None);
+    }
+    if ways <= FEW {
+        return Ok(Some((numbers, Planned::Kept(tail))));
     }
     let whole = CommPlan::new(alloc, sig, pattern)?;
-    Ok((&numbers[..0], Planned::Own(whole)))
+    Ok(Some((&numbers[..0], Planned::Own(whole))))
 }
 
 // A room with the terms that the children of these numbers may take, and with what is known of the plan's nodes.
@@ -190,8 +202,9 @@ pub(crate) fn room_for(
     numbers: &[u32],
     plan: &CommPlan,
 ) -> Result<CommRoom, Memory>
+    requires table { IsTable table.now }
     requires node { IsNodeOf table.now node }
-    requires numbers { AllByRecursion (λ n. n < length plans.now.children.items) numbers.now }
+    requires numbers { (ps : List plain_pattern) × AreLeads plans.now numbers.now ps }
     requires plan { (sig : Sig) × IsCommPlanOf sig plan.now.plan.pattern plan.now }
     requires store { IsStoreOf table.now plans.now store.old }
     ensures room { IfOk result (IsRoomFor table.now 0 (nodes_below plan.now.plan.pattern)
@@ -199,7 +212,7 @@ pub(crate) fn room_for(
     ensures grounds { IfOk result (λ r. AreGrounds table.now (subpatterns plan.now.plan.pattern)
         r.grounds.list.items.items) }
     ensures choices { IfOk result (λ r. HasRanks table.now r.choices.items) }
-    ensures picks { IfOk result (λ r. (ps : List plain_pattern) → map (child_at plans.now) numbers.now ≡ map Some ps
+    ensures picks { IfOk result (λ r. (ps : List plain_pattern) → AreLeads plans.now numbers.now ps
         → ArePicksOf table.now (terms_at table.now (plain.args_of node.entry.args)) r.width r.choices.items ps
         r.picks.items) }
     ensures store { OnOk result (IsStoreOf table.now plans.now store.new) }

@@ -1,15 +1,20 @@
 //! The terms that children may take, found once for all patterns that have the child.
 ghost use Rattle.std.specs.Prelude.{◌≡◌, ◌<◌, ◌≤◌, ◌-◌, ◌++◌, ℕ, List, take, drop, length, replicate, IfOk, OnOk};
-ghost use Rattle.std.specs.Prelude.{IsTrue, option_map, slice_get};
+ghost use Rattle.std.specs.Prelude.{IsTrue, Option, Some, not, true, option_map, slice_get};
+ghost use Rattle.std.specs.List.{AllByRecursion, list_any};
 ghost use Rattle.std.specs.List.Sorted.{IsSorted};
 ghost use Rattle.mp_pattern.specs.PatternTree as plain;
 ghost use Rattle.mp_pattern.specs.View.{pattern_tree};
 ghost use Rattle.mp_table.specs.Table as terms;
-ghost use Rattle.mp_table.specs.Table.{HasRank, HasRanks, rank_cmp, term_at, terms_at};
-ghost use Rattle.mp_ac.specs.Candidates.{AreCandidates, AreFound, given_terms, is_same, unasked};
-ghost use Rattle.mp_ac.specs.CommPlans.{child_at};
+ghost use Rattle.mp_table.specs.Table.{HasRank, HasRanks, IsTable, rank_cmp, term_at, terms_at};
+ghost use Rattle.mp_term.specs.Tree.{Tree};
+ghost use Rattle.mp_theory.specs.Shape.{shape};
+ghost use Rattle.mp_ac.specs.Candidates.{AreCandidates, AreChoices, AreFound, given_terms, is_same, unasked};
+ghost use Rattle.mp_ac.specs.Clash.{clash};
+ghost use Rattle.mp_ac.specs.CommPlans.{IsLead, child_at};
 
-use crate::comm_plans::CommPlans;
+use crate::clash::clash;
+use crate::comm_plans::{CommPlans, Lead};
 use crate::syntactic::has_shape;
 use mp_pattern::Pattern;
 use mp_table::{Rank, Table};
@@ -27,10 +32,11 @@ pub(crate) struct Found {
 }
 
 /// The terms that children may take below the nodes of a table, by ranks: for each child of patterns that are prepared
-/// together those of the node that was asked last.
+/// together, and for each leading one with the next one, those of the node that was asked last.
 #[derive(Drop)]
 pub struct Candidates {
     pub(crate) entries: Vec<Found>,
+    pub(crate) leads: Vec<Found>,
     pub(crate) ranks: Vec<Rank>,
 }
 
@@ -99,6 +105,56 @@ fn push_candidates(
     Ok(())
 }
 
+// Where the child takes the term of the rank, the next child may take the term of one of these ranks.
+fn goes_on(table: &Table, child: &Pattern, rank: Rank, next: &Pattern, its: &[Rank]) -> bool
+    requires table { IsTable table.now }
+    requires rank { HasRank table.now rank }
+    requires shape { shape (pattern_tree child.now) (term_at table.now rank) ≡ true }
+    requires ranks { HasRanks table.now its.now }
+    requires shapes { AllByRecursion (λ r. shape (pattern_tree next.now) (term_at table.now r) ≡ true) its.now }
+    ensures { result ≡ list_any (λ r. not (clash (pattern_tree child.now) (term_at table.now rank)
+        (pattern_tree next.now) (term_at table.now r))) its.now }
+{
+    for own in its {
+        if !clash(table, child, rank, next, *own) {
+            return true;
+        }
+    }
+    false
+}
+
+// Adds those of the child's candidates that the next child, which has these ones, doesn't bar. Both are parts of the
+// ranks.
+fn push_choices(
+    ranks: &mut Vec<Rank>,
+    table: &Table,
+    child: &Pattern,
+    own: (usize, usize),
+    next: &Pattern,
+    its: (usize, usize),
+) -> Result<(), Memory>
+    requires table { IsTable table.now }
+    requires ranks { HasRanks table.now ranks.old.items }
+    requires own { (own.0 ≤ own.1) × (own.1 ≤ length ranks.old.items) }
+    requires its { (its.0 ≤ its.1) × (its.1 ≤ length ranks.old.items) }
+    requires shaped { AllByRecursion (λ r. shape (pattern_tree child.now) (term_at table.now r) ≡ true)
+        (take (own.1 - own.0) (drop own.0 ranks.old.items)) }
+    requires its_shaped { AllByRecursion (λ r. shape (pattern_tree next.now) (term_at table.now r) ≡ true)
+        (take (its.1 - its.0) (drop its.0 ranks.old.items)) }
+    ensures { OnOk result ((rs : List Rank) × (ranks.new.items ≡ ranks.old.items ++ rs) × ((us : List Tree)
+        → AreCandidates table.now (pattern_tree child.now) us (take (own.1 - own.0) (drop own.0 ranks.old.items))
+        → AreCandidates table.now (pattern_tree next.now) us (take (its.1 - its.0) (drop its.0 ranks.old.items))
+        → AreChoices table.now (pattern_tree child.now) (Some (pattern_tree next.now)) us rs)) }
+{
+    for place in own.0..own.1 {
+        let rank = ranks[place];
+        if goes_on(table, child, rank, next, &ranks[its.0..its.1]) {
+            ranks.push(rank)?;
+        }
+    }
+    Ok(())
+}
+
 impl Candidates {
     /// Nothing is found yet. It takes no memory.
     pub fn new(alloc: Global) -> Candidates
@@ -106,6 +162,7 @@ impl Candidates {
     {
         Candidates {
             entries: Vec::new(alloc),
+            leads: Vec::new(alloc),
             ranks: Vec::new(alloc),
         }
     }
@@ -123,6 +180,7 @@ impl Candidates {
     {
         if self.ranks.len() > KEPT {
             self.entries.clear();
+            self.leads.clear();
             self.ranks.clear();
         }
     }
@@ -155,6 +213,7 @@ impl Candidates {
         ensures candidates { IfOk result (λ r. (p : plain.Pattern) → child_at plans.now number ≡ Some p
             → AreCandidates table.now p (given_terms (term_at table.now node) alone)
             (take (r.1 - r.0) (drop r.0 self.new.ranks.items))) }
+        ensures more { OnOk result ((rs : List Rank) × (self.new.ranks.items ≡ self.old.ranks.items ++ rs)) }
         ensures found { OnOk result (AreFound table.now plans.now self.new) }
     {
         let number = number as usize;
@@ -168,6 +227,70 @@ impl Candidates {
         push_candidates(&mut self.ranks, table, &plans.children[number], args)?;
         let end = self.ranks.len();
         self.entries[number] = Found {
+            node: Some(node),
+            alone,
+            from,
+            end,
+        };
+        Ok((from, end))
+    }
+
+    // What is kept of the leading child of the number.
+    fn lead(&self, number: usize) -> Option<&Found>
+        ensures { option_map (λ e. e.now) result ≡ slice_get self.now.leads.items number }
+    {
+        self.leads.get(number)
+    }
+
+    // Where the choices of the leading child of the number stand among the ranks: its candidates but for those that
+    // the next one bars. They are of what the children of the node take together, which is given.
+    pub(crate) fn choices(
+        &mut self,
+        table: &Table,
+        plans: &CommPlans,
+        node: Rank,
+        alone: bool,
+        args: &[Rank],
+        number: u32,
+    ) -> Result<(usize, usize), Memory>
+        requires table { IsTable table.now }
+        requires found { AreFound table.now plans.now self.old }
+        requires rank { HasRank table.now node }
+        requires ranks { HasRanks table.now args.now }
+        requires ascending { IsSorted rank_cmp args.now }
+        requires args { terms_at table.now args.now ≡ given_terms (term_at table.now node) alone }
+        requires number { (p : plain.Pattern) × (next : Option plain.Pattern) × IsLead plans.now number p next }
+        ensures part { IfOk result (λ r. (r.0 ≤ r.1) × (r.1 ≤ length self.new.ranks.items)) }
+        ensures choices { IfOk result (λ r. (p : plain.Pattern) (next : Option plain.Pattern)
+            → IsLead plans.now number p next → AreChoices table.now p next (given_terms (term_at table.now node) alone)
+            (take (r.1 - r.0) (drop r.0 self.new.ranks.items))) }
+        ensures found { OnOk result (AreFound table.now plans.now self.new) }
+    {
+        let place = number as usize;
+        if let Some(entry) = self.lead(place)
+            && entry.is_of(node, alone)
+        {
+            return Ok((entry.from, entry.end));
+        }
+        let Lead { child, next } = plans.leads[place];
+        let own = self.fill(table, plans, node, alone, args, child)?;
+        let Some(next) = next else {
+            return Ok(own);
+        };
+        let its = self.fill(table, plans, node, alone, args, next)?;
+        make_room(&mut self.leads, plans.leads.len())?;
+        let from = self.ranks.len();
+        let (child, next) = (child as usize, next as usize);
+        push_choices(
+            &mut self.ranks,
+            table,
+            &plans.children[child],
+            own,
+            &plans.children[next],
+            its,
+        )?;
+        let end = self.ranks.len();
+        self.leads[place] = Found {
             node: Some(node),
             alone,
             from,

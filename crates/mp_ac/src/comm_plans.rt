@@ -21,10 +21,17 @@ use mp_pattern::{Pattern, Patterns, copy_pattern};
 use mp_term::{Memory, OpId, Signature};
 use std::alloc::Global;
 
-// How many slots there are for the numbers of children, and how many of them are looked at for one child.
+// How many slots there are for numbers, and how many of them are looked at for one child.
 const SLOTS: usize = 4096;
 
 const PROBES: usize = 64;
+
+// A leading child and the one behind it, if there is one, by the numbers of children.
+#[derive(Clone, Copy)]
+pub(crate) struct Lead {
+    pub(crate) child: u32,
+    pub(crate) next: Option<u32>,
+}
 
 /// A commutative pattern that is prepared: where the numbers of its leading children stand, how many there are, and
 /// the number of the plan of the others.
@@ -36,13 +43,16 @@ pub struct Prepared {
 }
 
 /// Patterns of commutative operations that are prepared together. A leading child is one that takes one term, in one
-/// way at most; equal ones of several patterns are mostly kept once. `IsPrepared` of `specs/CommPlans.antt` says what
-/// is known of a pattern.
-// The slots hold the numbers of children, from 1, by their digests. They only help to find a child.
+/// way at most; equal ones of several patterns are mostly kept once, and so are equal ones in front of equal ones.
+/// `IsPrepared` of `specs/CommPlans.antt` says what is known of a pattern.
+// The slots hold the numbers of children, and of those with the next ones, from 1, by their digests. They only help to
+// find one.
 #[derive(Drop)]
 pub struct CommPlans {
     pub(crate) children: Vec<Pattern>,
     pub(crate) slots: Vec<u32>,
+    pub(crate) leads: Vec<Lead>,
+    pub(crate) lead_slots: Vec<u32>,
     pub(crate) numbers: Vec<u32>,
     pub(crate) tails: Vec<CommPlan>,
     pub(crate) list: Vec<Prepared>,
@@ -57,6 +67,24 @@ fn put(alloc: Global, slots: &mut Vec<u32>, slot: usize, number: u32) -> Result<
         slots[slot] = number;
     }
     Ok(())
+}
+
+// The slot for the number of a lead.
+fn lead_slot(lead: Lead) -> usize
+    ensures { result < SLOTS }
+{
+    let next = match lead.next {
+        None => 0,
+        Some(number) => u64::from(number) + 1,
+    };
+    ((u64::from(lead.child) * 67 + next) % SLOTS as u64) as usize
+}
+
+// The leads are the same.
+fn is_lead(own: Lead, lead: Lead) -> bool
+    ensures { IsTrue result → own ≡ lead }
+{
+    own.child == lead.child && own.next == lead.next
 }
 
 // The two lists have the same patterns.
@@ -173,6 +201,8 @@ impl CommPlans {
         CommPlans {
             children: Vec::new(alloc),
             slots: Vec::new(alloc),
+            leads: Vec::new(alloc),
+            lead_slots: Vec::new(alloc),
             numbers: Vec::new(alloc),
             tails: Vec::new(alloc),
             list: Vec::new(alloc),
@@ -238,6 +268,7 @@ impl CommPlans {
         ensures children { IfOk result (λ n. (c : declared.Pattern) × (pattern_tree c ≡ pattern_tree child.now)
             × (n ≡ length self.old.children.items)
             × (self.new.children.items ≡ self.old.children.items ++ c ∷ [])) }
+        ensures leads { self.new.leads ≡ self.old.leads }
         ensures numbers { self.new.numbers ≡ self.old.numbers }
         ensures tails { self.new.tails ≡ self.old.tails }
         ensures list { self.new.list ≡ self.old.list }
@@ -256,6 +287,7 @@ impl CommPlans {
         ensures children { OnOk result ((cs : List declared.Pattern)
             × (self.new.children.items ≡ self.old.children.items ++ cs)) }
         ensures number { IfOk result (λ n. child_at self.new n ≡ Some (pattern_tree child.now)) }
+        ensures leads { self.new.leads ≡ self.old.leads }
         ensures numbers { self.new.numbers ≡ self.old.numbers }
         ensures tails { self.new.tails ≡ self.old.tails }
         ensures list { self.new.list ≡ self.old.list }
@@ -266,23 +298,98 @@ impl CommPlans {
         }
     }
 
-    // Adds the number of a child.
-    fn add_child(&mut self, alloc: Global, child: &Pattern) -> Result<(), Memory>
-        ensures { OnOk result (AreAdded self.old self.new (pattern_tree child.now ∷ [])) }
+    // The number of the lead, or a slot for it.
+    fn find_lead(&self, lead: Lead) -> Result<u32, usize>
+        ensures { IfOk result (λ n. slice_get self.now.leads.items n ≡ Some lead) }
     {
-        let number = self.number(alloc, child)?;
+        let start = lead_slot(lead);
+        for step in 0..PROBES {
+            let slot = (start + step) % SLOTS;
+            let Some(number) = self.lead_slots.get(slot) else {
+                return Err(slot);
+            };
+            if *number == 0 {
+                return Err(slot);
+            }
+            if let Some(own) = self.leads.get(*number as usize - 1)
+                && is_lead(*own, lead)
+            {
+                return Ok(*number - 1);
+            }
+        }
+        Err(start)
+    }
+
+    // The number of a new lead, which the slot then holds.
+    fn new_lead(&mut self, alloc: Global, lead: Lead, slot: usize) -> Result<u32, Memory>
+        ensures leads { IfOk result (λ n. (n ≡ length self.old.leads.items)
+            × (self.new.leads.items ≡ self.old.leads.items ++ lead ∷ [])) }
+        ensures children { self.new.children ≡ self.old.children }
+        ensures numbers { self.new.numbers ≡ self.old.numbers }
+        ensures tails { self.new.tails ≡ self.old.tails }
+        ensures list { self.new.list ≡ self.old.list }
+    {
+        let number = self.leads.len();
+        if number >= u32::MAX as usize {
+            return Err(Memory);
+        }
+        self.leads.push(lead)?;
+        put(alloc, &mut self.lead_slots, slot, number as u32 + 1)?;
+        Ok(number as u32)
+    }
+
+    // The number of a lead, which is new where it isn't found.
+    fn lead_number(&mut self, alloc: Global, lead: Lead) -> Result<u32, Memory>
+        ensures leads { OnOk result ((ls : List Lead) × (self.new.leads.items ≡ self.old.leads.items ++ ls)) }
+        ensures number { IfOk result (λ n. slice_get self.new.leads.items n ≡ Some lead) }
+        ensures children { self.new.children ≡ self.old.children }
+        ensures numbers { self.new.numbers ≡ self.old.numbers }
+        ensures tails { self.new.tails ≡ self.old.tails }
+        ensures list { self.new.list ≡ self.old.list }
+    {
+        match self.find_lead(lead) {
+            Ok(number) => Ok(number),
+            Err(slot) => self.new_lead(alloc, lead, slot),
+        }
+    }
+
+    // Adds the number of a lead.
+    fn add_lead(&mut self, alloc: Global, lead: Lead) -> Result<(), Memory>
+        ensures leads { OnOk result ((ls : List Lead) × (self.new.leads.items ≡ self.old.leads.items ++ ls)) }
+        ensures numbers { OnOk result ((n : ℕ) × (self.new.numbers.items ≡ self.old.numbers.items ++ n ∷ [])
+            × (slice_get self.new.leads.items n ≡ Some lead)) }
+        ensures children { self.new.children ≡ self.old.children }
+        ensures tails { self.new.tails ≡ self.old.tails }
+        ensures list { self.new.list ≡ self.old.list }
+    {
+        let number = self.lead_number(alloc, lead)?;
         self.numbers.push(number)?;
         Ok(())
     }
 
-    // Adds the numbers of the children.
-    fn add_children(&mut self, alloc: Global, children: &[Pattern]) -> Result<(), Memory>
+    // Adds the numbers of the child of the number and of those behind it, as leading children.
+    fn add_from(&mut self, alloc: Global, child: u32, later: &[Pattern]) -> Result<(), Memory>
+        ensures { OnOk result ((p : plain.Pattern) → child_at self.old child ≡ Some p
+            → AreAdded self.old self.new (p ∷ map pattern_tree later.now)) }
+    {
+        let [first, rest @ ..] = later else {
+            return self.add_lead(alloc, Lead { child, next: None });
+        };
+        let number = self.number(alloc, first)?;
+        let next = Some(number);
+        self.add_lead(alloc, Lead { child, next })?;
+        self.add_from(alloc, number, rest)
+    }
+
+    // Adds the numbers of the leading children.
+    fn add_leads(&mut self, alloc: Global, children: &[Pattern]) -> Result<(), Memory>
         ensures { OnOk result (AreAdded self.old self.new (map pattern_tree children.now)) }
     {
-        for child in children {
-            self.add_child(alloc, child)?;
-        }
-        Ok(())
+        let [first, later @ ..] = children else {
+            return Ok(());
+        };
+        let number = self.number(alloc, first)?;
+        self.add_from(alloc, number, later)
     }
 
     /// Prepares a pattern behind the others, whose variables are named by their numbers in a trail. The signature is
@@ -302,7 +409,7 @@ impl CommPlans {
         let children = children.as_slice();
         let count = set_tail(alloc, sig, &mut self.tails, pattern, *op, children)?;
         let from = self.numbers.len();
-        self.add_children(alloc, &children[..count])?;
+        self.add_leads(alloc, &children[..count])?;
         let tail = self.tails.len() - 1;
         self.list.push(Prepared { from, count, tail })?;
         Ok(())
@@ -315,7 +422,7 @@ impl CommPlans {
         self.tails.get(prepared.tail)
     }
 
-    /// The numbers of the leading children.
+    /// The numbers of the leading children, each with the next one (`IsLead` of `specs/CommPlans.antt`).
     pub fn numbers_of(&self, prepared: Prepared) -> &[u32]
         requires { (sig : Sig) × (p : plain.Pattern) × IsPrepared sig self.now p prepared }
         ensures { result.now ≡ take prepared.count (drop prepared.from self.now.numbers.items) }

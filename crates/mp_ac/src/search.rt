@@ -1,9 +1,8 @@
 //! The search for the items below a commutative node, one after the other.
-ghost use Rattle.std.specs.Prelude.{◌≡◌, ◌≤◌, ◌+◌, [], drop, length, option_map, slice_get, Some, MatchBool};
-ghost use Rattle.std.specs.Prelude.{IfOk, IfSome, IsSome, IsTrue, OnOk};
+ghost use Rattle.std.specs.Prelude.{◌≡◌, ◌≤◌, ◌+◌, [], drop, length, option_map, slice_get, Some};
+ghost use Rattle.std.specs.Prelude.{IfOk, IfSome, IsSome, IsTrue, MatchBool, MatchOption, OnOk};
 ghost use Rattle.std.specs.List.{AllByRecursion};
 ghost use Rattle.mp_term.specs.Normal.{IsNormal};
-ghost use Rattle.mp_term.specs.Size.{all_nodes};
 ghost use Rattle.mp_pattern.specs.Constants.{pattern_constants};
 ghost use Rattle.mp_pattern.specs.Fits.{arranged};
 ghost use Rattle.mp_pattern.specs.Value.{Subst};
@@ -15,11 +14,9 @@ ghost use Rattle.mp_ac.specs.Candidates.{given_terms};
 ghost use Rattle.mp_ac.specs.CommItems.{SameValues};
 ghost use Rattle.mp_ac.specs.CommPlan.{IsNumberedPattern, root_op};
 ghost use Rattle.mp_ac.specs.CommPlans.{IsPrepared};
-ghost use Rattle.mp_ac.specs.CommRoom.{IsOfTable};
 ghost use Rattle.mp_ac.specs.Numbered.{IsTrailOf, numbered_subst};
 ghost use Rattle.mp_ac.specs.Search.{IsOver, ahead, cost_of, item_table, mark_of, table_of};
 ghost use Rattle.mp_ac.specs.Seek.{IsCommutative};
-ghost use Rattle.mp_ac.specs.Stage.{stage_after};
 ghost use Rattle.mp_ac.specs.Store.{IsStoreOf};
 ghost use Rattle.mp_ac.specs.declared.comm_plans.CommPlans.{CommPlans as plain_plans};
 
@@ -58,13 +55,14 @@ pub struct CommSearch<'a> {
 
 impl<'a> CommSearch<'a> {
     /// The search before its first item. Its list is `comm_list` of `specs/CommList.antt` over the trail's
-    /// substitution, in which each variable is named by its number.
+    /// substitution, in which each variable is named by its number. None says that the list is seen to be empty.
     ///
     /// The pattern is an application of a commutative operation, prepared among the plans. The node is a term of the
     /// table, whose terms are normal over the signature, and which holds the pattern's symbols and defaults. The
     /// children take its arguments together, which are those of an application of their operation in order, or it
     /// alone. The trail has room for the nodes of the arguments and three for each node below the pattern's root. The
-    /// store is one of the table and of the plans, also afterwards. `Memory` comes where there is no memory for it.
+    /// store is one of the table and of the plans, also afterwards. `Memory` comes where there is no memory for it;
+    /// then nothing is said of the store.
     pub fn begin(
         alloc: Global,
         store: &mut CommStore,
@@ -76,7 +74,7 @@ impl<'a> CommSearch<'a> {
         node: Rank,
         alone: bool,
         trail: &Trail,
-    ) -> Result<CommSearch<'a>, Memory>
+    ) -> Result<Option<CommSearch<'a>>, Memory>
         requires pattern { IsNumberedPattern (pattern_tree pattern.now) }
         requires commutative { IsCommutative sig.now (pattern_tree pattern.now) }
         requires prepared { IsPrepared sig.now plans.now (pattern_tree pattern.now) prepared }
@@ -90,22 +88,27 @@ impl<'a> CommSearch<'a> {
         requires spare { cost (pattern_tree pattern.now) (given_terms (term_at table.now node) alone)
             ≤ trail.now.spare }
         requires store { IsStoreOf table.now plans.now store.old }
-        ensures over { IfOk result (λ c. IsOver c trail.now) }
-        ensures mark { IfOk result (λ c. mark_of c ≡ length trail.now.stack) }
-        ensures list { IfOk result (λ c. (s : Subst) → ahead c s ≡ root_list sig.now (pattern_tree pattern.now)
-            (given_terms (term_at table.now node) alone) alone s) }
-        ensures table { IfOk result (λ c. table_of c ≡ table.now) }
-        ensures cost { IfOk result (λ c. cost_of c
-            ≡ cost (pattern_tree pattern.now) (given_terms (term_at table.now node) alone)) }
+        ensures over { IfOk result (λ o. IfSome o (λ c. IsOver c trail.now)) }
+        ensures mark { IfOk result (λ o. IfSome o (λ c. mark_of c ≡ length trail.now.stack)) }
+        ensures list { IfOk result (λ o. (s : Subst) → MatchOption o
+            (root_list sig.now (pattern_tree pattern.now) (given_terms (term_at table.now node) alone) alone s ≡ [])
+            (λ c. ahead c s ≡ root_list sig.now (pattern_tree pattern.now)
+            (given_terms (term_at table.now node) alone) alone s)) }
+        ensures table { IfOk result (λ o. IfSome o (λ c. table_of c ≡ table.now)) }
+        ensures cost { IfOk result (λ o. IfSome o (λ c. cost_of c
+            ≡ cost (pattern_tree pattern.now) (given_terms (term_at table.now node) alone))) }
         ensures store { IfOk result (λ _. IsStoreOf table.now plans.now store.new) }
     {
         let Pattern::App(_, children) = pattern else {
             unreachable!()
         };
         let node = Node::new(table, node, alone);
-        let (numbers, plan) = parts(alloc, store, sig, plans, prepared, pattern, table, node)?;
+        let Some((numbers, plan)) = parts(alloc, store, sig, plans, prepared, pattern, table, node)?
+        else {
+            return Ok(None);
+        };
         let room = room_for(alloc, store, table, plans, node, numbers, plan.get())?;
-        Ok(CommSearch {
+        Ok(Some(CommSearch {
             sig,
             table,
             children: &children.as_slice()[..numbers.len()],
@@ -115,7 +118,7 @@ impl<'a> CommSearch<'a> {
             room,
             mark: trail.mark(),
             stage: Stage::Before,
-        })
+        }))
     }
 
     // Whether the search stands at an item, and it is seen that none comes behind it.

@@ -1,6 +1,6 @@
 //! The search for the items of a commutative node, where its first children take one term each.
-ghost use Rattle.std.specs.Prelude.{◌≡◌, ◌<◌, ◌≤◌, ◌+◌, ◌∷◌, ◌++◌, ℕ, List, [], length, map, drop, MatchBool, false};
-ghost use Rattle.std.specs.Prelude.{IsTrue, true};
+ghost use Rattle.std.specs.Prelude.{◌≡◌, ◌<◌, ◌≤◌, ◌+◌, ◌∷◌, ◌++◌, ℕ, List, [], length, map, drop, MatchBool};
+ghost use Rattle.std.specs.Prelude.{IsTrue, false, slice_get, true};
 ghost use Rattle.std.specs.List.{AllByRecursion};
 ghost use Rattle.std.specs.List.Sorted.{IsSorted};
 ghost use Rattle.mp_term.specs.Listing.{In};
@@ -23,6 +23,7 @@ ghost use Rattle.mp_ac.specs.Stage.{IsOnward};
 use crate::asked::Asked;
 use crate::look::look;
 use crate::pick::Pick;
+use crate::star::{bind_bag, is_of_star};
 use crate::syntactic::fill;
 use mp_pattern::Pattern;
 use mp_search::{Ground, Level, Mode, Room, place_of};
@@ -40,7 +41,8 @@ pub(crate) struct Sought<'a> {
     pub(crate) width: usize,
 }
 
-// Looks for the item that is wanted where no child is left that takes one term.
+// Looks for the item that is wanted where no child is left that takes one term. A star wildcard that is alone takes all
+// that is left.
 fn seek_tail(
     sought: Sought<'_>,
     left: &[Rank],
@@ -68,15 +70,27 @@ fn seek_tail(
     ensures spare { trail.old.spare ≤ trail.new.spare + seek_cost sought.entry.asked [] left.now }
     ensures trail { IsTrailOf sought.entry.asked.table.now trail.new }
 {
-    look(
-        sought.asked,
-        left,
-        sought.grounds,
-        sought.width,
-        levels,
-        trail,
-        mode,
-    )
+    let asked = sought.asked;
+    if asked.owes || !is_of_star(asked.plan.pattern()) {
+        return look(
+            asked,
+            left,
+            sought.grounds,
+            sought.width,
+            levels,
+            trail,
+            mode,
+        );
+    }
+    match mode {
+        Mode::First => {}
+        _ => return false,
+    }
+    if !bind_bag(asked.table, asked.vars, left, trail) {
+        return false;
+    }
+    levels[0].set(left, false);
+    true
 }
 
 // Takes the rank out of those that are left, where it stands among them.
@@ -181,7 +195,7 @@ fn seek_each(
     requires left { AreGiven sought.asked.sig.now sought.asked.plan.now.pattern sought.asked.table.now left.now }
     requires wide { all_nodes (terms_at sought.asked.table.now left.now) ≤ sought.width }
     requires own { IsPickOf sought.asked.table.now (terms_at sought.asked.table.now left.now) sought.width
-        sought.choices.now (pattern_tree child.now) own.old }
+        sought.choices.now (pattern_tree child.now) (slice_get (map pattern_tree later.now) 0) own.old }
     requires below { ArePicksOf sought.asked.table.now (terms_at sought.asked.table.now left.now) sought.width
         sought.choices.now (map pattern_tree later.now) below.old }
     requires count { nodes_below sought.asked.plan.now.pattern ≤ length levels.old }
@@ -199,9 +213,9 @@ fn seek_each(
         (items_sought a ps left.now (numbered_subst a.table.now trail.old.stack))
         (numbered_subst a.table.now trail.new.stack) result }
     ensures own { (us : List Tree) → IsPickOf sought.entry.asked.table.now us sought.entry.width
-        sought.entry.choices.now (pattern_tree child.now) own.old
+        sought.entry.choices.now (pattern_tree child.now) (slice_get (map pattern_tree later.now) 0) own.old
         → IsPickOf sought.entry.asked.table.now us sought.entry.width sought.entry.choices.now
-        (pattern_tree child.now) own.new }
+        (pattern_tree child.now) (slice_get (map pattern_tree later.now) 0) own.new }
     ensures below { (us : List Tree) → ArePicksOf sought.entry.asked.table.now us sought.entry.width
         sought.entry.choices.now (map pattern_tree later.now) below.old
         → ArePicksOf sought.entry.asked.table.now us sought.entry.width sought.entry.choices.now

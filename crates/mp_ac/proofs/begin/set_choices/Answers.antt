@@ -7,11 +7,15 @@ use Rattle.mp_term.proofs.ListLaws.{all-append}
 use Rattle.mp_subst.proofs.TrailLaws.{all-take}
 use Rattle.mp_table.specs.Table.{HasRank, HasRanks, terms_at}
 use Rattle.mp_ac.specs.Args as plain
-use Rattle.mp_ac.specs.CommPlans.{child_at}
-use Rattle.mp_ac.specs.Candidates.{AreCandidates}
+use Rattle.mp_ac.specs.Candidates.{AreChoices}
 use Rattle.mp_ac.specs.declared.pick.Pick.{Pick}
-use Rattle.mp_ac.proofs.PicksLaws.{HavePicks, all-at, all-drop, all-set, picked-more, picks-of}
+use Rattle.mp_ac.proofs.PicksLaws.{HavePicks, all-at, all-drop, all-set, lead-at, picked-more, picks-of}
 use Rattle.mp_ac.proofs.begin.set_choices.Goals as goal
+
+pub choices-requires-clause-number : goal.choices-requires-clause-number
+choices-requires-clause-number c =
+    lead-at c.args.plans.now c.args.numbers.now c.requires.numbers.0 c.loop-index.index c.requires.numbers.1
+    c.loop-index-test.true
 
 pub loop-index-preserved : goal.loop-index-preserved
 loop-index-preserved c =
@@ -22,7 +26,7 @@ loop-index-preserved c =
     let n = get_or c.args.numbers.now i 0 in
     let from = c.in_ok-from.from in
     let end = c.in_ok-from.end in
-    let ranks = c.fill.new.self.ranks.items in
+    let ranks = c.choices.new.self.ranks.items in
     let part = take (end - from) (drop from ranks) in
     let own = c.index_mut-pick.result.now in
     let v : Pick = record {
@@ -65,14 +69,14 @@ loop-index-preserved c =
           (picked-more t us room.width c.args.plans.now c.args.numbers.now room.choices.items part room.picks.items i n
           v c.loop-index.invariant.picks (slice_get-get_or c.args.numbers.now i 0 c.loop-index-test.true) start
           (omega (arith, start, count)) start wide
-          (λ p child. subst (λ xs. AreCandidates t p xs part) (sym c.requires.node.terms)
-          (c.in_ok-from.ensures.candidates p child)));
+          (λ p next lead. subst (λ xs. AreChoices t p next xs part) (sym c.requires.node.terms)
+          (c.in_ok-from.ensures.choices p next lead)));
     }
 
 pub returns-clause-picks : goal.returns-clause-picks
-returns-clause-picks c = λ ps e.
+returns-clause-picks c = λ ps leads.
     picks-of c.args.table.now (terms_at c.args.table.now (plain.args_of c.args.node.args)) c.loop-index.room.width
-    (child_at c.args.plans.now) c.loop-index.room.choices.items c.args.numbers.now ps c.loop-index.room.picks.items
-    (λ j n p k number child found. c.loop-index.invariant.picks j
-    (let within = slice_get_within c.args.numbers.now j n number in omega (arith, within)) n p k number child found)
-    (omega (arith, c.loop-index.invariant.count, c.requires.children)) e
+    c.args.plans.now c.loop-index.room.choices.items c.args.numbers.now ps c.loop-index.room.picks.items
+    (λ j n p next k number lead found. c.loop-index.invariant.picks j
+    (let within = slice_get_within c.args.numbers.now j n number in omega (arith, within)) n p next k number lead found)
+    (omega (arith, c.loop-index.invariant.count, c.requires.children)) leads

@@ -1,7 +1,12 @@
-use Rattle.std.proofs.Common.{◌≡◌, ◌≤◌, ◌<◌, ◌+◌, ◌-◌, ◌∷◌, ◌++◌, ap, sym, ◌∙◌, subst, arith, inl, inr, length, map}
+use Rattle.std.proofs.Common.{◌≡◌, ◌≤◌, ◌<◌, ◌-◌, ◌∷◌, ◌++◌, ap, sym, ◌∙◌, subst, arith, inl, inr, length, map}
 use Rattle.std.proofs.Common.{take, drop}
+use Rattle.std.specs.Prelude.{List, slice_get}
+use Rattle.std.specs.List.{AllByRecursion}
 use Rattle.std.proofs.lemmas.Bool.Decides.{nat_tests}
+use Rattle.mp_term.specs.Signature.{Sig}
+use Rattle.mp_term.proofs.ListLaws.{all-map}
 use Rattle.mp_pattern.specs.View.{pattern_tree}
+use Rattle.mp_pattern.specs.declared.pattern.Pattern.{Pattern}
 use Rattle.mp_table.specs.Table.{term_at, terms_at}
 use Rattle.mp_theory.specs.Shape.{table_of}
 use Rattle.mp_subst.specs.Trail.{Trail, cut}
@@ -9,11 +14,16 @@ use Rattle.mp_subst.proofs.TrailLaws.{cut-kept, cut-whole}
 use Rattle.mp_search.specs.Wanted.{IsStanding}
 use Rattle.mp_search.proofs.PartLaws.{first-item}
 use Rattle.mp_ac.specs.Numbered.{IsTrailOf, numbered_subst}
-use Rattle.mp_ac.specs.Seek.{seek_cost, sought_table}
+use Rattle.mp_ac.specs.Seek.{IsLeading, seek_cost, sought_table}
 use Rattle.mp_ac.proofs.SeekEach as each
 use Rattle.mp_ac.proofs.SeekWith as with
 use Rattle.mp_ac.proofs.seek.+seek.Goals.{seek_each-in-After, seek_each-in_default}
 use Rattle.mp_ac.proofs.seek.+seek.Goals as goal
+
+-- what the later children are
+leads : (sig : Sig) (ps : List Pattern) → AllByRecursion (λ p. IsLeading sig (pattern_tree p)) ps
+    → AllByRecursion (IsLeading sig) (map pattern_tree ps)
+leads sig ps h = all-map (λ p. IsLeading sig (pattern_tree p)) (IsLeading sig) pattern_tree (λ p i. i) ps h
 
 pub seek_with-take_out-requires-clause-ascending : goal.seek_with-take_out-requires-clause-ascending
 seek_with-take_out-requires-clause-ascending t c =
@@ -160,9 +170,10 @@ seek_each-loop-at-init t c =
     let x = c.args.sought in
     let p = pattern_tree c.args.child.now in
     let ps = map pattern_tree c.args.later.now in
-    each.each-begin x c.requires.sought p c.requires.child ps c.args.left.now c.args.trail.now c.args.own.now
-    c.requires.own c.args.below.now c.args.levels.now c.args.mode c.requires.mode c.requires.levels c.requires.standing
-    c.match-mode.at
+    each.each-begin x c.requires.sought p c.requires.child ps
+    (leads x.asked.sig.now c.args.later.now c.requires.later) c.args.left.now c.args.trail.now c.args.own.now
+    c.requires.own c.args.below.now c.args.levels.now c.args.mode c.requires.mode c.requires.levels
+    c.requires.standing c.match-mode.at
     (elim c.match-mode.branch [
       | seek_each-in-After w ↦ inl (w.in-After.is, w.at-is)
       | seek_each-in_default w ↦ inr (w.in_default.not-After, w.at-is)
@@ -200,10 +211,12 @@ seek_each-seek_with-requires t c =
               (
                 c.requires.wide,
                 (
-                  each.place-held x c.requires.sought p c.requires.child ps rs c.args.trail.now c.loop-at.own own
+                  each.place-held x c.requires.sought p c.requires.child ps
+                      (leads x.asked.sig.now c.args.later.now c.requires.later) rs c.args.trail.now c.loop-at.own own
                       c.loop-at.at v.within less,
                   (
-                    each.place-shaped x c.requires.sought p c.requires.child ps rs c.args.trail.now c.loop-at.own own
+                    each.place-shaped x c.requires.sought p c.requires.child ps
+                        (leads x.asked.sig.now c.args.later.now c.requires.later) rs c.args.trail.now c.loop-at.own own
                         c.loop-at.at v.within less,
                     (
                       own.room,
@@ -244,17 +257,19 @@ seek_each-returns-then-seek_with-clause-found t c =
     let x = c.args.sought in
     let less : c.loop-at.at < c.loop-at.own.end = grind (arith, nat_tests) in
     each.each-found x c.requires.sought (pattern_tree c.args.child.now) c.requires.child
-    (map pattern_tree c.args.later.now) c.args.left.now c.args.trail.now c.args.own.now c.loop-at.own c.args.below.now
-    c.loop-at.below c.args.levels.now c.loop-at.levels c.loop-at.trail c.args.mode c.loop-at.mode c.loop-at.at
-    c.loop-at.invariant c.requires.own less c.seek_with.new.rest c.seek_with.new.picks c.seek_with.new.levels
+    (map pattern_tree c.args.later.now) (leads x.asked.sig.now c.args.later.now c.requires.later) c.args.left.now
+    c.args.trail.now c.args.own.now c.loop-at.own c.args.below.now c.loop-at.below c.args.levels.now c.loop-at.levels
+    c.loop-at.trail c.args.mode c.loop-at.mode c.loop-at.at c.loop-at.invariant c.requires.own less c.seek_with.new.rest
+    c.seek_with.new.picks c.seek_with.new.levels
     (numbered_subst x.asked.table.now c.seek_with.new.trail.stack) c.if-seek_with.ensures.found
 
 pub seek_each-returns-then-seek_with-clause-own : goal.seek_each-returns-then-seek_with-clause-own
 seek_each-returns-then-seek_with-clause-own t c us i =
     let x = c.args.sought in
     let v = c.loop-at.invariant in
-    each.pick-moved x.asked.table.now us x.width x.choices.now (pattern_tree c.args.child.now) c.loop-at.own
-    c.loop-at.at c.seek_with.new.rest c.seek_with.ensures.room v.within (grind (arith, nat_tests)) (v.own_kept us i)
+    each.pick-moved x.asked.table.now us x.width x.choices.now (pattern_tree c.args.child.now)
+    (slice_get (map pattern_tree c.args.later.now) 0) c.loop-at.own c.loop-at.at c.seek_with.new.rest
+    c.seek_with.ensures.room v.within (grind (arith, nat_tests)) (v.own_kept us i)
 
 pub seek_each-overflow_add-at : goal.seek_each-overflow_add-at
 seek_each-overflow_add-at t c =
@@ -268,9 +283,10 @@ seek_each-loop-at-preserved t c =
     let less : c.loop-at.at < c.loop-at.own.end = grind (arith, nat_tests) in
     let kept = subst (λ (w : Trail). cut (length w.stack) c.seek_with.new.trail ≡ w) v.trail c.seek_with.ensures.kept in
     each.each-next x c.requires.sought (pattern_tree c.args.child.now) c.requires.child
-    (map pattern_tree c.args.later.now) c.args.left.now c.args.trail.now c.args.own.now c.loop-at.own c.args.below.now
-    c.loop-at.below c.args.levels.now c.loop-at.levels c.loop-at.trail c.args.mode c.loop-at.mode c.loop-at.at
-    v c.requires.own less c.seek_with.new.rest c.seek_with.new.picks c.seek_with.new.levels
+    (map pattern_tree c.args.later.now) (leads x.asked.sig.now c.args.later.now c.requires.later) c.args.left.now
+    c.args.trail.now c.args.own.now c.loop-at.own c.args.below.now c.loop-at.below c.args.levels.now c.loop-at.levels
+    c.loop-at.trail c.args.mode c.loop-at.mode c.loop-at.at v c.requires.own less c.seek_with.new.rest
+    c.seek_with.new.picks c.seek_with.new.levels
     c.undo.new.self
     (c.undo.ensures.trail ∙ ap (λ n. cut n c.seek_with.new.trail) c.mark-mark.ensures ∙ kept)
     c.seek_with.ensures.room c.seek_with.ensures.picks c.seek_with.ensures.rooms c.seek_with.ensures.count
