@@ -22,7 +22,6 @@ use Rattle.mp_theory.proofs.Wildcards.{final-passes, IsFine}
 use Rattle.mp_ac.specs.declared.search.CommSearch.{CommSearch}
 use Rattle.mp_ac.specs.Asked.{root_list}
 use Rattle.mp_ac.specs.CommPlan.{root_op}
-use Rattle.mp_ac.specs.Search.{ahead}
 use Rattle.mp_ac.proofs.Below.{arguments-fine}
 use Rattle.mp_walk.specs.declared.comm.Below.{Below}
 use Rattle.mp_walk.specs.Below.{IsBelow, IsAtWay, IsWayOf, below_ahead}
@@ -190,17 +189,17 @@ module _ (b : Below) (f : Open) (gs : List Open) (next : ℕ) (s : Subst) where
 
 -- a new search
 pub step-begun : (b : Below) (h : IsBelow b) (f : Open) (gs : List Open) (s : Subst)
-    (first : f.left ≡ term_of b ∷ drop 1 f.left) (next way : ℕ) (c : CommSearch)
+    (first : f.left ≡ term_of b ∷ drop 1 f.left) (next way : ℕ) (o : Option CommSearch)
     → Some way ≡ way_among next (has_head b.op.0 (term_of b)) (is_one b.sig.now b.op.0 && b.collapses)
-    → ahead c s ≡ items_by_way b way s
-    → left_steps b f gs (way + 1) (Some c) s ≡ ways_from b.sig.now f gs s (comm_token (pattern_of b)) next
-step-begun b h f gs s first next way c e k =
+    → below_ahead o s ≡ items_by_way b way s
+    → left_steps b f gs (way + 1) o s ≡ ways_from b.sig.now f gs s (comm_token (pattern_of b)) next
+step-begun b h f gs s first next way o e k =
     let n : IsNextWay b h f gs s first next way =
     subst (λ o. MatchOption o (ways_from b.sig.now f gs s (comm_token (pattern_of b)) next ≡ [])
     (IsNextWay b h f gs s first next)) (sym e) (next-way b h f gs s first next _ _ refl refl) in
     let m : way + 1 - 1 ≡ way = omega arith in
     let l : way + 1 ≡ suc way = omega arith in
-    ap (λ n. map (item_step f gs (pattern_of b) (first_entry f.left n)) (ahead c s)
+    ap (λ n. map (item_step f gs (pattern_of b) (first_entry f.left n)) (below_ahead o s)
     ++ ways_from b.sig.now f gs s (comm_token (pattern_of b)) (way + 1)) m
     ∙ ap (λ is. map (item_step f gs (pattern_of b) (first_entry f.left way)) is
     ++ ways_from b.sig.now f gs s (comm_token (pattern_of b)) (way + 1)) k
@@ -243,3 +242,8 @@ pub at-way : (next : ℕ) (old : Option CommSearch) (s : Subst) (i : Item) → s
     → IsAtWay next old → (1 ≤ next) × (next ≤ 2)
 at-way next None s i e k = cc
 at-way next (Some c) s i e k = k
+
+-- a way is that of the search at hand, if there is one
+pub is-at-way : (next : ℕ) (o : Option CommSearch) → 1 ≤ next → next ≤ 2 → IsAtWay next o
+is-at-way next None few most = tt
+is-at-way next (Some c) few most = (few, most)

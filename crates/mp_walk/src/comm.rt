@@ -2,9 +2,8 @@
 ghost use Rattle.std.specs.Prelude.{◌≡◌, ◌≤◌, ◌+◌, List, [], ◌∷◌, drop, IfOk, IsTrue, IsFalse, None};
 ghost use Rattle.mp_pattern.specs.Value.{Subst};
 ghost use Rattle.mp_subst.specs.Trail.{cut, length_at};
-ghost use Rattle.mp_ac.specs.Search.{ahead};
 ghost use Rattle.mp_ac.specs.Store.{IsStoreOf};
-ghost use Rattle.mp_walk.specs.Below.{IsAbove, IsBelow, IsNextItem, IsSearch, IsSearchOf, IsStepBelow, cost_of};
+ghost use Rattle.mp_walk.specs.Below.{IsAbove, IsBelow, IsNextItem, IsSearch, IsStepBelow, below_ahead, cost_of};
 ghost use Rattle.mp_walk.specs.Below.{left_steps, term_of, unboxed};
 ghost use Rattle.mp_walk.specs.TokenMachine.{Open};
 ghost use Rattle.mp_walk.specs.Below.{IsAtWay, IsWayOf, items_by_way};
@@ -75,21 +74,21 @@ fn next_item<'a>(
     }
 }
 
-// The search of a way, before its first item.
+// The search of a way, before its first item, where there may be one.
 fn begin<'a>(
     alloc: Global,
     below: Below<'a>,
     way: usize,
     store: &mut CommStore,
     trail: &Trail,
-) -> Result<CommSearch<'a>, Memory>
+) -> Result<Option<Box<CommSearch<'a>>>, Memory>
     requires below { IsBelow below }
     requires way { IsWayOf below way }
     requires trail { IsTrailOf below.table.now trail.now }
     requires spare { cost_of below ≤ trail.now.spare }
     requires store { IsStoreOf below.table.now below.plans.now store.old }
-    ensures search { IfOk result (IsSearchOf below.entry trail.now) }
-    ensures list { IfOk result (λ c. (s : Subst) → ahead c s ≡ items_by_way below.entry way s) }
+    ensures search { IfOk result (λ o. IsSearch below.entry trail.now (unboxed o)) }
+    ensures list { IfOk result (λ o. (s : Subst) → below_ahead (unboxed o) s ≡ items_by_way below.entry way s) }
     ensures store { IfOk result (λ _. IsStoreOf below.entry.table.now below.entry.plans.now store.new) }
 {
     let Below {
@@ -102,9 +101,13 @@ fn begin<'a>(
         ..
     } = below;
     let alone = way == 1;
-    CommSearch::begin(
+    let begun = CommSearch::begin(
         alloc, store, sig, plans, prepared, pattern, table, rank, alone, trail,
-    )
+    )?;
+    match begun {
+        None => Ok(None),
+        Some(search) => Ok(Some(Box::new(alloc, search)?)),
+    }
 }
 
 // Takes the next step below the application, which is bound over the trail of the mark: the next item of the search at
@@ -153,7 +156,7 @@ pub(crate) fn step_below<'a>(
             return Ok(false);
         };
         let begun = begin(alloc, below, way, store, trail)?;
-        *search = Some(Box::new(alloc, begun)?);
+        *search = begun;
         *next = way + 1;
     }
     Ok(true)

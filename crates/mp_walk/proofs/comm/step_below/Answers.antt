@@ -1,9 +1,8 @@
-use Rattle.std.proofs.Common.{◌≡◌, ◌∙◌, [], length, ap, sym, subst, arith}
+use Rattle.std.proofs.Common.{◌≡◌, ◌+◌, ◌∙◌, [], length, ap, sym, subst, arith}
 use Rattle.std.proofs.lemmas.List.{length-take-le}
 use Rattle.mp_subst.specs.Trail.{Trail, cut, length_at}
 use Rattle.mp_subst.proofs.TrailLaws.{cut-cut}
-use Rattle.mp_ac.specs.Search.{ahead}
-use Rattle.mp_walk.specs.Below.{IsSearchOf, below_ahead, unboxed}
+use Rattle.mp_walk.specs.Below.{IsSearch, below_ahead, unboxed}
 use Rattle.mp_ac.specs.Numbered.{numbered_subst}
 use Rattle.mp_walk.proofs.BelowLaws as laws
 use Rattle.mp_walk.proofs.comm.step_below.Goals as goal
@@ -61,18 +60,15 @@ loop-alloc-preserved c =
     let none = subst (λ (w : Trail). below_ahead o (numbered_subst b.table.now w.stack) ≡ [])
     c.loop-alloc.invariant.above.cut c.loop-alloc-test.ensures.found in
     let back = c.undo.ensures.trail ∙ c.next_item.ensures.above.cut ∙ c.loop-alloc.invariant.above.cut in
-    let made = c.in_ok-new.field-0.value in
-    let boxed : made ≡ c.in_ok-begun.begun = c.in_ok-new.ensures.ok in
     let way = laws.way-next b c.loop-alloc.next c.in-Some.way (sym c.in-Some.is ∙ c.first_way.ensures) in
     record {
       same = λ f gs first.
-          laws.step-begun b c.requires.below f gs s first c.loop-alloc.next c.in-Some.way made
-          (sym c.in-Some.is ∙ c.first_way.ensures) (ap (λ q. ahead q s) boxed ∙ c.in_ok-begun.ensures.list s)
+          laws.step-begun b c.requires.below f gs s first c.loop-alloc.next c.in-Some.way
+          (unboxed c.in_ok-begun.begun) (sym c.in-Some.is ∙ c.first_way.ensures) (c.in_ok-begun.ensures.list s)
           ∙ sym (laws.step-over b f gs c.loop-alloc.next s o none)
           ∙ c.loop-alloc.invariant.same f gs first;
-      search = subst (IsSearchOf b u) (sym boxed)
-          (subst (λ w. IsSearchOf b w c.in_ok-begun.begun) back c.in_ok-begun.ensures.search);
-      way = (omega arith, omega (arith, way.0.few));
+      search = subst (λ w. IsSearch b w (unboxed c.in_ok-begun.begun)) back c.in_ok-begun.ensures.search;
+      way = laws.is-at-way (c.in-Some.way + 1) (unboxed c.in_ok-begun.begun) (omega arith) (omega (arith, way.0.few));
       above = record {
         long = omega (arith, ap (λ (w : Trail). length w.stack) back, length-take-le m t.stack c.requires.above.long);
         cut = ap (cut m) back ∙ cut-cut m m t (omega arith) c.requires.above.long;

@@ -1,4 +1,4 @@
-use Rattle.std.proofs.Common.{◌≡◌, ◌∙◌, ap, sym, drop}
+use Rattle.std.proofs.Common.{◌∙◌, ap, sym}
 use Rattle.std.proofs.lemmas.List.{drop-map, take_rest}
 use Rattle.mp_table.specs.Table.{term_at, terms_at}
 use Rattle.mp_walk.specs.OpenOnes.{open_of}
