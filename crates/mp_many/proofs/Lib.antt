@@ -6,6 +6,7 @@ mod ChainLaws
 mod GroupLaws
 mod DigestLaws
 mod RowLaws
+mod SharedLaws
 mod ApartLaws
 pub mod TreeLaws
 mod CodeLaws

@@ -3,7 +3,7 @@ use Rattle.std.proofs.Common.{◌≡◌, ◌<◌, ◌≤◌, ℕ, zero, suc, ◌
 use Rattle.std.proofs.Common.{get_or, Bool}
 use Rattle.std.proofs.Common.{true, false, refl, ap, sym, ◌∙◌, subst, arith, append_assoc, drop-cons}
 use Rattle.std.proofs.Common.{nat_lt}
-use Rattle.std.specs.Prelude.{Option, Some, None, is_some, option_map, if◌then◌else◌, flat_map, slice_get}
+use Rattle.std.specs.Prelude.{Option, Some, None, if◌then◌else◌, flat_map, slice_get}
 use Rattle.std.proofs.lemmas.List.{length-append}
 use Rattle.std.proofs.lemmas.Bool.Decides.{nat_tests}
 use Rattle.std.proofs.Math.Seq.{drop-append_seam, take-append_seam}
@@ -193,13 +193,14 @@ laid-step below ls ks js k rows made done own more e o t m f =
     ∙ append_assoc rows (row ∷ states) (each_laid below ls js (suc (suc n) + length states))
     ∙ ap (λ xs. rows ++ each_laid below ls xs (suc n)) (sym e)
 
--- what ends there, by whether there is a token
-pub ended-none : {X : Type 0} (n : ℕ) (f : X → NetToken) (o : Option X) → is_some o ≡ false
-    → ended_by n (option_map f o) ≡ n ∷ []
-ended-none n f None e = refl
-ended-none n f (Some x) e = cc
+-- what ends there, by whether the list goes on
+pub ended-past : (n place : ℕ) (l : Path) → length l ≤ place → ended_by n (slice_get l place) ≡ n ∷ []
+ended-past n zero [] h = refl
+ended-past n (suc place) [] h = refl
+ended-past n zero (k ∷ l) h = absurd (omega (arith, h))
+ended-past n (suc place) (k ∷ l) h = ended-past n place l (omega (arith, h))
 
-pub ended-some : {X : Type 0} (n : ℕ) (f : X → NetToken) (o : Option X) → is_some o ≡ true
-    → ended_by n (option_map f o) ≡ []
-ended-some n f None e = cc
-ended-some n f (Some x) e = refl
+pub ended-within : (n place : ℕ) (l : Path) → place < length l → ended_by n (slice_get l place) ≡ []
+ended-within n place [] h = absurd (omega (arith, h))
+ended-within n zero (k ∷ l) h = refl
+ended-within n (suc place) (k ∷ l) h = ended-within n place l (omega (arith, h))

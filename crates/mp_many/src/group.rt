@@ -1,5 +1,5 @@
 //! Token lists that begin alike from a place on, together.
-ghost use Rattle.std.specs.Prelude.{◌≡◌, ◌<◌, ◌++◌, [], ◌∷◌, length, map, flat_map, IfOk, OnOk};
+ghost use Rattle.std.specs.Prelude.{◌≡◌, ◌<◌, ◌++◌, [], ◌∷◌, length, map, flat_map, IfOk, IfSome, OnOk};
 ghost use Rattle.std.specs.List.{AllByRecursion};
 ghost use Rattle.mp_many.specs.Groups.{entered, grouped, left_at, AreApart};
 ghost use Rattle.mp_many.specs.Laid.{ended};
@@ -157,6 +157,39 @@ fn enter_next<'a>(
     enter_marked(alloc, groups, marks, token, number)
 }
 
+// The token with which all lists of the numbers go on at the place, where that is told at once of each.
+fn shared_token<'a>(lists: &[TokenList<'a>], numbers: &[u32], place: usize) -> Option<Token<'a>>
+    requires { AllByRecursion (λ n. n < length lists.now) numbers.now }
+    ensures { IfSome result (λ k. grouped (left_at lists.now place numbers.now) ≡ (read_token k, numbers.now) ∷ []) }
+{
+    if numbers.is_empty() {
+        return None;
+    }
+    let token = lists[numbers[0] as usize].get(place)?;
+    for number in numbers {
+        let other = lists[*number as usize].get(place)?;
+        if !is_plainly_same(&token, &other) {
+            return None;
+        }
+    }
+    Some(token)
+}
+
+// The group of all lists of the numbers, alone.
+fn one_group<'a>(alloc: Global, token: Token<'a>, numbers: &[u32]) -> Result<Vec<Group<'a>>, Memory>
+    requires { 0 < length numbers.now }
+    ensures { IfOk result (λ gs. map group_of gs.items ≡ (read_token token.entry, numbers.now) ∷ []) }
+{
+    let mut groups = Vec::with_capacity(alloc, 1)?;
+    groups.push(Group {
+        token,
+        digest: token_digest(&token),
+        first: numbers[0],
+        all: Vec::from_slice(alloc, numbers)?,
+    })?;
+    Ok(groups)
+}
+
 // The groups of the lists of the numbers by their tokens at the place, in order of the first list of each.
 pub(crate) fn groups_of<'a>(
     alloc: Global,
@@ -167,6 +200,9 @@ pub(crate) fn groups_of<'a>(
     requires { AllByRecursion (λ n. n < length lists.now) numbers.now }
     ensures { IfOk result (λ gs. map group_of gs.items ≡ grouped (left_at lists.now place numbers.now)) }
 {
+    if let Some(token) = shared_token(lists, numbers, place) {
+        return one_group(alloc, token, numbers);
+    }
     let mut groups = Vec::new(alloc);
     let mut marks = marks_for(alloc, numbers.len())?;
     for number in numbers {
@@ -189,7 +225,7 @@ pub(crate) fn ended(
 {
     let mut ended = Numbers::new(alloc);
     for number in numbers {
-        if lists[*number as usize].get(place).is_none() {
+        if lists[*number as usize].len() <= place {
             ended.push(*number)?;
         }
     }

@@ -10,8 +10,9 @@ use Rattle.mp_many.specs.TokenView.{read_token}
 use Rattle.mp_many.proofs.ApartLaws.{apart-entered}
 use Rattle.mp_many.proofs.GroupLaws.{entered_all, entered-grouped}
 use Rattle.mp_many.proofs.RowLaws.{entered_by, entered-step, within-step}
+use Rattle.mp_many.proofs.SharedLaws.{shared-some}
 use Rattle.mp_many.proofs.group.groups_of.Goals as goal
-use Rattle.mp_many.proofs.group.groups_of.Goals.{in-Some+in_ok-enter_next, in_default}
+use Rattle.mp_many.proofs.group.groups_of.Goals.{in-Some-get+in_ok-enter_next, in_default-get}
 
 -- marks and groups that are these are marked as they are
 marked-as : {a b : Vec Bool Global} {g h : Vec Group Global} → a ≡ b → g ≡ h → AreMarked b.items (map group_of h.items)
@@ -35,34 +36,34 @@ loop-number-preserved c =
       within = step.1;
       digests =
           elim c.match-get.branch [
-            | in-Some+in_ok-enter_next w ↦
+            | in-Some-get+in_ok-enter_next w ↦
                 subst (λ v. AllByRecursion IsDigested v.items) (sym w.groups-is) w.in_ok-enter_next.ensures.digests
-            | in_default w ↦ subst (λ v. AllByRecursion IsDigested v.items) (sym w.groups-is) old.digests
+            | in_default-get w ↦ subst (λ v. AllByRecursion IsDigested v.items) (sym w.groups-is) old.digests
           ];
       apart =
           elim c.match-get.branch [
-            | in-Some+in_ok-enter_next w ↦
+            | in-Some-get+in_ok-enter_next w ↦
                 subst (λ v. AreApart (map group_of v.items)) (sym w.groups-is)
                 (subst AreApart (sym w.in_ok-enter_next.ensures.entered)
-                (apart-entered gs (read_token w.in-Some.token) (get_or ns i 0) old.apart))
-            | in_default w ↦ subst (λ v. AreApart (map group_of v.items)) (sym w.groups-is) old.apart
+                (apart-entered gs (read_token w.in-Some-get.token) (get_or ns i 0) old.apart))
+            | in_default-get w ↦ subst (λ v. AreApart (map group_of v.items)) (sym w.groups-is) old.apart
           ];
       marked =
           elim c.match-get.branch [
-            | in-Some+in_ok-enter_next w ↦ marked-as w.marks-is w.groups-is w.in_ok-enter_next.ensures.marked
-            | in_default w ↦ marked-as w.marks-is w.groups-is old.marked
+            | in-Some-get+in_ok-enter_next w ↦ marked-as w.marks-is w.groups-is w.in_ok-enter_next.ensures.marked
+            | in_default-get w ↦ marked-as w.marks-is w.groups-is old.marked
           ];
       groups =
           elim c.match-get.branch [
-            | in-Some+in_ok-enter_next w ↦
+            | in-Some-get+in_ok-enter_next w ↦
                 ap (λ hs. entered_all hs (left_at lists c.args.place (drop (i + 1) ns)))
                 (ap (λ v. map group_of v.items) w.groups-is ∙ w.in_ok-enter_next.ensures.entered
-                ∙ ap (entered_by gs (get_or ns i 0)) (sym (ap (option_map read_token) w.in-Some.is)))
+                ∙ ap (entered_by gs (get_or ns i 0)) (sym (ap (option_map read_token) w.in-Some-get.is)))
                 ∙ sym e ∙ old.groups
-            | in_default w ↦
+            | in_default-get w ↦
                 ap (λ hs. entered_all hs (left_at lists c.args.place (drop (i + 1) ns)))
                 (ap (λ v. map group_of v.items) w.groups-is
-                ∙ ap (entered_by gs (get_or ns i 0)) (sym (ap (option_map read_token) w.in_default.is)))
+                ∙ ap (entered_by gs (get_or ns i 0)) (sym (ap (option_map read_token) w.in_default-get.is)))
                 ∙ sym e ∙ old.groups
           ];
     }
@@ -84,3 +85,8 @@ enter_next-requires c =
       marked = c.loop-number.invariant.marked;
       apart = c.loop-number.invariant.apart;
     }
+
+pub one_group-requires : goal.one_group-requires
+one_group-requires c =
+    shared-some c.args.lists.now c.args.place c.args.numbers.now (read_token c.in-Some.token)
+    c.in-Some.ensures
