@@ -26,6 +26,7 @@ use mp_text::{File, TextError, read_file};
 use mp_vm::Program;
 use mp_words::{Action, Request};
 use std::alloc::Global;
+use std::mem;
 
 // A file of rules has at most so many bytes.
 const FILE_LIMIT: usize = 1_048_576;
@@ -124,7 +125,12 @@ fn act_over<'a, O: Sink>(
     ensures read { status_of result ≡ 4 → ⊥ }
 {
     match read_file(alloc, bytes) {
-        Ok(file) => act_with(alloc, request, &file, text, out),
+        Ok(file) => {
+            let ending = act_with(alloc, request, &file, text, out);
+            // The command ends here: the memory of the file goes back to the system with the process, at once.
+            mem::forget(file);
+            ending
+        }
         Err(TextError::Text(fault)) => Ending::Told(Told::BadText(request.file, fault)),
         Err(TextError::Memory) => Ending::Memory,
     }

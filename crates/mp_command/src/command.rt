@@ -75,7 +75,8 @@ fn finish<E: Sink>(err: &mut E, ending: Ending<'_>) -> u8
 /// 8 (want of memory), 9 (the token of `--resume` is misspelt, or that of no match), 10 (the engine `net` was asked
 /// for, and a rule isn't syntactic), 11 (`rewrite` was asked for, and a rule has no template) and 12 (the text of a
 /// program file has a fault). The definition is `IsOutcome` of `specs/Outcome.antt`, and `specs/Run.antt` says how a
-/// run meets it where memory or a device fails.
+/// run meets it where memory or a device fails. The memory of the file that was read, and of the tree of rules that the
+/// engine `many` builds, isn't freed here: it goes back to the system with the process.
 pub fn run<S: Shelf, O: Sink, E: Sink>(
     alloc: Global,
     words: &[String],

@@ -33,6 +33,7 @@ use mp_term::Memory;
 use mp_text::File;
 use mp_words::{Engine, Request};
 use std::alloc::Global;
+use std::mem;
 
 /// How it ends where matches were listed so.
 pub fn ending<'a>(listed: Result<bool, ListFault>) -> Ending<'a>
@@ -103,7 +104,12 @@ fn match_by_walk<'a, O: Sink>(
     ensures read { status_of result ≡ 4 → ⊥ }
 {
     match ManyMatcher::build(alloc, &file.sig, &file.rules) {
-        Ok(matcher) => print_matches(alloc, file, &matcher, limit, out),
+        Ok(matcher) => {
+            let ending = print_matches(alloc, file, &matcher, limit, out);
+            // The memory of the tree of rules goes back to the system with the process too, at once.
+            mem::forget(matcher);
+            ending
+        }
         Err(Memory) => Ending::Memory,
     }
 }

@@ -13,8 +13,8 @@ use Rattle.mp_command.proofs.answer.act_over.Goals as goal
 pub returns-in-Ok-clause-acts : goal.returns-in-Ok-clause-acts
 returns-in-Ok-clause-acts g c =
     acted-file (asked c.args.request) (named c.args.text) c.args.bytes.now
-    (sunk g.O.Sink c.args.out.now c.act_with.new.out) (file_tree c.in-Ok.file) c.act_with.result
-    c.in-Ok.ensures.found c.in-Ok.ensures.only c.in-Ok.ensures.only_fault c.act_with.ensures.acts
+    (sunk g.O.Sink c.args.out.now c.act_with-ending.new.out) (file_tree c.in-Ok.file) c.act_with-ending.result
+    c.in-Ok.ensures.found c.in-Ok.ensures.only c.in-Ok.ensures.only_fault c.act_with-ending.ensures.acts
 
 pub returns-in-Err-Text-clause-acts : goal.returns-in-Err-Text-clause-acts
 returns-in-Err-Text-clause-acts g c =
