@@ -56,7 +56,7 @@ use Rattle.mp_ac.specs.declared.begin.Node.{Node}
 use Rattle.mp_ac.specs.declared.comm_plan.CommPlan.{CommPlan}
 use Rattle.mp_ac.specs.declared.comm_plans.CommPlans.{CommPlans}
 use Rattle.mp_ac.specs.declared.search.CommSearch.{CommSearch}
-use Rattle.mp_ac.proofs.PicksLaws.{leads-length}
+use Rattle.mp_ac.proofs.PreparedLaws.{leads-length}
 use Rattle.mp_ac.proofs.SearchLaws.{distinct-numbers}
 use Rattle.mp_ac.proofs.SyntacticLaws.{names-children}
 

@@ -13,6 +13,7 @@ use Rattle.mp_term.specs.OrderLaws.{both_equal}
 use Rattle.mp_term.proofs.ListingLaws.{all_in}
 use Rattle.mp_pattern.specs.Fits.{Table}
 use Rattle.mp_pattern.specs.DerivationOrder.{table_cmp}
+use Rattle.mp_table.proofs.Distinct.{equal-from}
 use Rattle.mp_theory.specs.OneList.{Item, item_tables}
 use Rattle.mp_theory.proofs.Tables.{entry_cmp_total}
 use Rattle.mp_theory.proofs.Unique.{same_entry}
@@ -32,16 +33,11 @@ same-table (d ∷ T) (e ∷ U) h =
     let k = both_equal _ _ h in
     ap (λ x. x ∷ T) (same_entry d e k.0) ∙ ap (λ x. e ∷ x) (same-table T U k.1)
 
-equal-test : (o : Ordering) → is_eq o ≡ true → o ≡ Equal
-equal-test Equal h = refl
-equal-test Less h = cc
-equal-test Greater h = cc
-
 -- another table isn't behind which one stands
 pub other-table : (T U : Table) → (T ≡ U → ⊥) → is_eq (table_cmp T U) ≡ false
 other-table T U never =
     elim (is_eq (table_cmp T U)) as (λ b. is_eq (table_cmp T U) ≡ b → b ≡ false) [
-      | true ↦ λ e. absurd (never (same-table T U (equal-test (table_cmp T U) e)))
+      | true ↦ λ e. absurd (never (same-table T U (equal-from (table_cmp T U) e)))
       | false ↦ λ e. refl
     ] refl
 

@@ -7,7 +7,7 @@ use Rattle.std.specs.List.{AllByRecursion, filter, list_any}
 use Rattle.std.specs.List.Sorted.{IsSorted, IsStrictlySortedBy}
 use Rattle.std.specs.declared.cmp.Ordering.TheVariants.{Less}
 use Rattle.std.proofs.Math.Seq.{drop-append_seam}
-use Rattle.std.proofs.lemmas.Bool.{eq-eqb, eqb-true}
+use Rattle.std.proofs.lemmas.Bool.{eq-eqb, eqb-true, not-false}
 use Rattle.std.proofs.lemmas.List.{append_assoc, length-append, take_all}
 use Rattle.std.proofs.lemmas.List.Kept.{IsStrictlySortedBy-filter}
 use Rattle.std.proofs.lemmas.Option.{slice_get_cases, slice_get_within}
@@ -309,14 +309,10 @@ choices-filter t p q us own its h k =
           by_test u r.0 r.1 r.2 (f r.0) refl;
     }
   where
-    none-goes : (b : Bool) → not b ≡ false → b ≡ true
-    none-goes true e = refl
-    none-goes false e = cc
-
     barred : (u : Tree) (r : Rank) → term_at t r ≡ u → goes_on t p q its r ≡ false → IsBarred (Some q) us p u
     barred u r is e = λ v i shaped.
         let s = k.all v i shaped in
-        none-goes (clash p u q v) (subst (λ x. not (clash p u q x) ≡ false) s.2
+        not-false (clash p u q v) (subst (λ x. not (clash p u q x) ≡ false) s.2
         (subst (λ x. not (clash p x q (term_at t s.0)) ≡ false) is
         (none-holds (λ z. not (clash p (term_at t r) q (term_at t z))) s.0 its e s.1)))
 

@@ -85,6 +85,31 @@ module _ (a : Asked) (rs : List Rank) (stage : Stage) (old : CommRoom) (t : Trai
       (picks : new.picks ≡ old.picks)
       (count : length new.levels.items ≡ length old.levels.items)
       (levels : AreLevels a.table.now old.width new.levels.items) where
+    -- with the new room a search stands where it is among the items
+    stands-on : (next : Stage) → IsAmong next (levels_table a new.levels.items) (all_items a rs (trail_subst a t))
+        → IsStandingAt a rs next new t
+    stands-on next among = record {
+      asked = h.asked;
+      given = h.given;
+      room = record {
+        of_table = record {
+          picks = subst (λ w. AllByRecursion (λ k. w ≤ k.rest.room) new.picks.items) (sym wide)
+              (subst (λ (v : Vec Pick Global). AllByRecursion (λ k. old.width ≤ k.rest.room) v.items) (sym picks)
+              h.room.of_table.picks);
+          levels = subst (λ w. AreLevels a.table.now w new.levels.items) (sym wide) levels;
+        };
+        wide = omega (arith, h.room.wide, wide);
+        children = omega arith;
+        nodes = omega (arith, h.room.nodes, count);
+        grounds = subst
+            (λ g. nodes_below a.plan.now.pattern + 1 ≤ g.list.room) (sym same) h.room.grounds;
+      };
+      grounds = subst (λ g. AreGrounds a.table.now (subpatterns a.plan.now.pattern) g.list.items.items)
+          (sym same) h.grounds;
+      trail = h.trail;
+      among = among;
+    }
+
     -- an item is found
     pub moved-found : (u : Trail)
         → slice_get (ahead_in a rs stage old (trail_subst a t)) 0
@@ -94,37 +119,19 @@ module _ (a : Asked) (rs : List Rank) (stage : Stage) (old : CommRoom) (t : Trai
         → cut (length t.stack) u ≡ t → BindsOnly a.vars.now t u
         → t.spare ≤ u.spare + cost a.plan.now.pattern (terms_at a.table.now rs) → GoesWith a.table.now u
         → IsMoved a rs stage old t true new u
-    moved-found u first rest kept only spare goes = record {
-      first = (first, rest);
-      stands = record {
-        asked = h.asked;
-        given = h.given;
-        room = record {
-          of_table = record {
-            picks = subst (λ w. AllByRecursion (λ k. w ≤ k.rest.room) new.picks.items) (sym wide)
-                (subst (λ (v : Vec Pick Global). AllByRecursion (λ k. old.width ≤ k.rest.room) v.items) (sym picks)
-                h.room.of_table.picks);
-            levels = subst (λ w. AreLevels a.table.now w new.levels.items) (sym wide) levels;
-          };
-          wide = omega (arith, h.room.wide, wide);
-          children = omega arith;
-          nodes = omega (arith, h.room.nodes, count);
-          grounds = subst
-              (λ g. nodes_below a.plan.now.pattern + 1 ≤ g.list.room) (sym same) h.room.grounds;
-        };
-        grounds = subst (λ g. AreGrounds a.table.now (subpatterns a.plan.now.pattern) g.list.items.items)
-            (sym same) h.grounds;
-        trail = h.trail;
-        among = table-in (all_items a rs (trail_subst a t)) (levels_table a new.levels.items, trail_subst a u)
-            (ahead-in stage (levels_table a old.levels.items) (all_items a rs (trail_subst a t))
-            (levels_table a new.levels.items, trail_subst a u) first);
-      };
-      count = count;
-      kept = kept;
-      only = only;
-      spare = spare;
-      goes = goes;
-    }
+    moved-found u first rest kept only spare goes =
+        let all = all_items a rs (trail_subst a t) in
+        let found : Item = (levels_table a new.levels.items, trail_subst a u) in
+        record {
+          first = (first, rest);
+          stands = stands-on Standing
+              (table-in all found (ahead-in stage (levels_table a old.levels.items) all found first));
+          count = count;
+          kept = kept;
+          only = only;
+          spare = spare;
+          goes = goes;
+        }
 
     -- so it is where it is looked for in a copy of the levels
     pub moved-look : (mode : Mode) → Some mode ≡ mode_at stage → (ls ks : List Level) → ls ≡ old.levels.items
@@ -149,27 +156,7 @@ module _ (a : Asked) (rs : List Rank) (stage : Stage) (old : CommRoom) (t : Trai
         → IsMoved a rs stage old t false new u
     moved-not u none back = subst (IsMoved a rs stage old t false new) (sym back) (record {
       first = (none, refl);
-      stands = record {
-        asked = h.asked;
-        given = h.given;
-        room = record {
-          of_table = record {
-            picks = subst (λ w. AllByRecursion (λ k. w ≤ k.rest.room) new.picks.items) (sym wide)
-                (subst (λ (v : Vec Pick Global). AllByRecursion (λ k. old.width ≤ k.rest.room) v.items) (sym picks)
-                h.room.of_table.picks);
-            levels = subst (λ w. AreLevels a.table.now w new.levels.items) (sym wide) levels;
-          };
-          wide = omega (arith, h.room.wide, wide);
-          children = omega arith;
-          nodes = omega (arith, h.room.nodes, count);
-          grounds = subst
-              (λ g. nodes_below a.plan.now.pattern + 1 ≤ g.list.room) (sym same) h.room.grounds;
-        };
-        grounds = subst (λ g. AreGrounds a.table.now (subpatterns a.plan.now.pattern) g.list.items.items)
-            (sym same) h.grounds;
-        trail = h.trail;
-        among = tt;
-      };
+      stands = stands-on Ended tt;
       count = count;
       kept = cut-whole t;
       only = subst (AllByRecursion (λ e. In e.var a.vars.now)) (sym (drop-length t.stack)) tt;

@@ -15,7 +15,7 @@ use Rattle.mp_table.specs.declared.rank.Rank.{Rank}
 use Rattle.mp_theory.specs.Shape.{shape, table_of}
 use Rattle.mp_ac.specs.declared.pick.Pick.{Pick}
 use Rattle.mp_ac.specs.Seek.{ArePicked, ArePicksOf, AreTaken, picked, picks_table}
-use Rattle.mp_ac.proofs.SeekLaws.{part-get}
+use Rattle.mp_ac.proofs.Parts.{part-get}
 
 -- what is behind the first of a list
 abbrev pub later : {X : Type 0} → List X → List X

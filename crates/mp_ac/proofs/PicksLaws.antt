@@ -1,6 +1,6 @@
 -- The picks of the children that take one term each, as the terms that they may take are put together.
-use Rattle.std.proofs.Common.{◌≡◌, ◌+◌, ◌<◌, ◌≤◌, ℕ, zero, suc, List, [], ◌∷◌, ◌++◌, take, drop, length}
-use Rattle.std.proofs.Common.{◌*◌, min, get_or, refl, ap, sym, subst, ◌∙◌, arith, inl, inr, below_more}
+use Rattle.std.proofs.Common.{◌≡◌, ◌+◌, ◌<◌, ◌≤◌, ℕ, zero, suc, List, [], ◌∷◌, ◌++◌, drop, length}
+use Rattle.std.proofs.Common.{◌*◌, min, get_or, refl, sym, subst, ◌∙◌, arith, inl, inr, below_more}
 use Rattle.std.specs.Prelude.{◌-◌, ◌⊎◌, Option, Some, slice_get, slice_set}
 use Rattle.std.specs.List.{AllByRecursion}
 use Rattle.std.proofs.Math.Nat.{le-mul_of_pos_right}
@@ -48,13 +48,7 @@ none-left m zero limit some room e = refl
 none-left m (suc n) limit some room e =
     absurd (omega (arith, le-mul_of_pos_right {m = suc n} m (omega arith), some, room, e))
 
--- the leading children are as many as their numbers, and one stands by each number
-pub leads-length : (x : CommPlans) (ns : List ℕ) (ps : List Pattern) → AreLeads x ns ps → length ns ≡ length ps
-leads-length x [] [] h = refl
-leads-length x [] (p ∷ ps) h = absurd h
-leads-length x (n ∷ ns) [] h = absurd h
-leads-length x (n ∷ ns) (p ∷ ps) h = ap suc (leads-length x ns ps h.1)
-
+-- one leading child stands by each number
 pub lead-at : (x : CommPlans) (ns : List ℕ) (ps : List Pattern) (i : ℕ) → AreLeads x ns ps → i < length ns
     → (p : Pattern) × (next : Option Pattern) × IsLead x (get_or ns i 0) p next
 lead-at x [] ps i h less = absurd (omega (arith, less))

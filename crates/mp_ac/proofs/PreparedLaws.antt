@@ -1,9 +1,10 @@
 -- What prepared patterns keep as others are added, and of what one is made.
 use Rattle.std.proofs.Common.{◌≡◌, ◌+◌, ◌<◌, ◌≤◌, ℕ, zero, suc, List, [], ◌∷◌, ◌++◌, map, take, drop, length, get_or}
-use Rattle.std.proofs.Common.{refl, ap, sym, subst, ◌∙◌, arith, inl, inr, Bool, true, false}
+use Rattle.std.proofs.Common.{refl, ap, sym, subst, ◌∙◌, arith, inl, inr, true, false}
 use Rattle.std.specs.Prelude.{◌-◌, Option, Some, None, IsSome, not, option_and_then, option_map, slice_get}
 use Rattle.std.specs.List.{AllByRecursion}
 use Rattle.std.proofs.Math.Seq.{drop-append_seam}
+use Rattle.std.proofs.lemmas.Bool.{not-false}
 use Rattle.std.proofs.lemmas.List.{append_assoc, map-append, length-append, length-drop}
 use Rattle.std.proofs.lemmas.List.{length-take-le, take_all, drop-map}
 use Rattle.std.specs.Ordering.{is_eq}
@@ -41,11 +42,7 @@ equal-tree p q e = pattern_same (pattern_tree p) (pattern_tree q)
 
 pub not_differ-tree : (p q : declared.Pattern) → not (is_eq (pattern_cmp (pattern_tree p) (pattern_tree q))) ≡ false
     → pattern_tree p ≡ pattern_tree q
-not_differ-tree p q e = equal-tree p q (by_not (is_eq (pattern_cmp (pattern_tree p) (pattern_tree q))) e)
-  where
-    by_not : (b : Bool) → not b ≡ false → b ≡ true
-    by_not true e = refl
-    by_not false e = cc
+not_differ-tree p q e = equal-tree p q (not-false (is_eq (pattern_cmp (pattern_tree p) (pattern_tree q))) e)
 
 -- two lists from a place on are the same where the items there are and what is behind them
 pub same-from : (xs ys : List declared.Pattern) (i : ℕ) (x y : declared.Pattern) → i < length xs → i < length ys
@@ -112,7 +109,7 @@ leads-more x y cs ls (n ∷ ns) (p ∷ ps) children leads h = (
 )
 
 -- there are as many numbers as leading children
-leads-length : (x : CommPlans) (ns : List ℕ) (ps : List Pattern) → AreLeads x ns ps → length ns ≡ length ps
+pub leads-length : (x : CommPlans) (ns : List ℕ) (ps : List Pattern) → AreLeads x ns ps → length ns ≡ length ps
 leads-length x [] [] h = refl
 leads-length x [] (p ∷ ps) h = absurd h
 leads-length x (n ∷ ns) [] h = absurd h

@@ -59,6 +59,12 @@ narrow-settled f =
       | more_patterns p ps ↦ omega arith
     ]
 
+-- what is asked of a condition where there is none
+unasked : (P : Bor own_cond → Type 0) (o : Option (Bor own_cond)) → o ≡ None
+    → elim o as (λ _. Type 0) [ None ↦ ⊤ | Some c ↦ P c ]
+unasked P None e = tt
+unasked P (Some c) e = cc
+
 -- where no condition is asked for, each item is good
 module _ (q : Query) (none : q.condition ≡ None) where
   pub all-good : (i : Item) → good q i ≡ true
@@ -71,14 +77,7 @@ module _ (q : Query) (none : q.condition ≡ None) where
 
   -- each list of items is complete
   pub comm-complete : (is : List Item) → AreComplete q is
-  comm-complete is = by_condition q.condition none
-    where
-      by_condition : (o : Option (Bor own_cond)) → o ≡ None → elim o as (λ _. Type 0) [
-        | None ↦ ⊤
-        | Some c ↦ AllByRecursion (λ i. IsComplete q.plan.now.variables i.1) is
-      ]
-      by_condition None e = tt
-      by_condition (Some c) e = cc
+  comm-complete is = unasked (λ c. AllByRecursion (λ i. IsComplete q.plan.now.variables i.1) is) q.condition none
 
   -- what is wanted first is all, and after a table what is greater
   wanted-first : (W : Table) (is : List Item) → wanted q First W is ≡ is
@@ -121,22 +120,10 @@ module _ (q : Query) (g : ℕ) (ps : Patterns) (h : IsCommQuery q g ps) where
     arranged = ap (λ f. arranged q.sig.now f (args_of q)) h.under ∙ h.ordered;
     vars = h.vars;
     distinct = h.distinct;
-    plain = plain q.condition h.condition;
-    asked = asked q.condition h.condition;
+    plain = unasked (λ c. q.vars.now ≡ range_with_len 0 (length q.plan.now.variables)) q.condition h.condition;
+    asked = unasked (λ c. IsConditionOver (map (λ x. x.name) q.plan.now.variables) (cond_tree c.now)
+        × AreHeld q.table.now (cond_tree c.now)) q.condition h.condition;
   }
-    where
-      plain : (o : Option (Bor own_cond)) → o ≡ None → elim o as (λ _. Type 0)
-          [ None ↦ ⊤ | Some c ↦ q.vars.now ≡ range_with_len 0 (length q.plan.now.variables) ]
-      plain None e = tt
-      plain (Some c) e = cc
-
-      asked : (o : Option (Bor own_cond)) → o ≡ None → elim o as (λ _. Type 0) [
-        | None ↦ ⊤
-        | Some c ↦ IsConditionOver (map (λ x. x.name) q.plan.now.variables) (cond_tree c.now)
-            × AreHeld q.table.now (cond_tree c.now)
-      ]
-      asked None e = tt
-      asked (Some c) e = cc
 
   -- no more is to take than the arguments
   pub comm-narrow : load (start_of q) ≤ all_nodes (args_of q)

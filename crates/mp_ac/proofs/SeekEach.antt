@@ -40,7 +40,8 @@ use Rattle.mp_ac.specs.Seek.{ArePicksOf, IsFoundOf, IsLeading, IsPickOf, IsSough
 use Rattle.mp_ac.specs.Seek.{picked, picks_table, sought_table}
 use Rattle.mp_ac.specs.Stage.{IsOnward, looked_for}
 use Rattle.mp_ac.proofs.BehindLaws.{table-in}
-use Rattle.mp_ac.proofs.SeekLaws.{first-found, first-none, part-first, part-get, part-none, part-split, root_among}
+use Rattle.mp_ac.proofs.Parts.{part-first, part-get, part-none, part-split}
+use Rattle.mp_ac.proofs.SeekLaws.{first-found, first-none, root_among}
 use Rattle.mp_ac.proofs.SeekLaws.{root-behind, root-first, root-table}
 use Rattle.mp_ac.proofs.StepLaws.{looked-in}
 
@@ -144,7 +145,7 @@ module _ (x : Sought) (h : IsSought x) (p : Pattern) (lead : IsLeading x.asked.s
   between-first i l = ap (λ us. among (terms_at tb us)) (part-first (record { 0 = 0 }) x.choices.now i k.end l o.within)
 
   between-none : (i : ℕ) → k.end ≤ i → items_between x p ps rs t i k.end ≡ []
-  between-none i l = ap (λ us. among (terms_at tb us)) (part-none (record { 0 = 0 }) x.choices.now i k.end l)
+  between-none i l = ap (λ us. among (terms_at tb us)) (part-none i k.end x.choices.now l)
 
   module _ (i : ℕ) (from : k.from ≤ i) (l : i < k.end) where
     abbrev u : Tree

@@ -1,8 +1,7 @@
--- The items where the first child takes one term, and the parts of a list of choices.
-use Rattle.std.proofs.Common.{◌≡◌, ◌≤◌, ◌<◌, ◌+◌, ◌-◌, ℕ, zero, suc, List, [], ◌∷◌, ◌++◌, length, map, take, drop}
-use Rattle.std.proofs.Common.{Bool, true, false, refl, ap, sym, ◌∙◌, subst, arith, get_or, drop-cons, inl, inr}
-use Rattle.std.specs.Prelude.{◌⊎◌, Option, Some, None, flat_map, slice_get, slice_index_or, option_map, if◌then◌else◌}
-use Rattle.std.specs.List.{AllByRecursion}
+-- The items where the first child takes one term.
+use Rattle.std.proofs.Common.{◌≡◌, List, [], ◌∷◌, ◌++◌, map, drop}
+use Rattle.std.proofs.Common.{Bool, true, false, refl, ap, sym, ◌∙◌, subst, inl, inr}
+use Rattle.std.specs.Prelude.{◌⊎◌, Option, Some, None, flat_map, slice_get, option_map, if◌then◌else◌}
 use Rattle.std.specs.List.Sorted.{IsStrictlySortedBy}
 use Rattle.std.proofs.lemmas.List.{append_cancel_left}
 use Rattle.std.proofs.lemmas.Option.{slice_get-map}
@@ -213,44 +212,3 @@ module _ (mode m : Mode) (W U V : Table) (all is js : List Item)
 
   pub first-none : looked_for m U is ≡ [] → looked_for mode W all ≡ js
   first-none e = ahead ∙ ap (λ ks. ks ++ js) e
-
--- the part of a list from i up to n
-module _ {X : Type 0} (d : X) where
-  pub part-first : (xs : List X) (i n : ℕ) → i < n → n ≤ length xs
-      → take (n - i) (drop i xs) ≡ slice_index_or xs i d ∷ take (n - (i + 1)) (drop (i + 1) xs)
-  part-first xs i n h k =
-      let one_more : i + 1 ≡ suc i = omega arith in
-      let size : n - i ≡ suc (n - (i + 1)) = omega (arith, h) in
-      ap (λ ys. take (n - i) ys) (drop-cons xs i d (omega (arith, h, k)))
-      ∙ ap (λ m. take m (get_or xs i d ∷ drop (suc i) xs)) size
-      ∙ ap (λ j. get_or xs i d ∷ take (n - (i + 1)) (drop j xs)) (sym one_more)
-
-  pub part-split : (xs : List X) (f i n : ℕ) → f ≤ i → i < n → n ≤ length xs
-      → (us : List X) × (take (n - f) (drop f xs)
-      ≡ us ++ slice_index_or xs i d ∷ take (n - (i + 1)) (drop (i + 1) xs))
-  part-split xs f i n a b c = by_gap (i - f) f (omega (arith, a))
-    where
-      by_gap : (m f : ℕ) → f + m ≡ i → (us : List X) × (take (n - f) (drop f xs)
-          ≡ us ++ slice_index_or xs i d ∷ take (n - (i + 1)) (drop (i + 1) xs))
-      by_gap zero f e =
-          let same : f ≡ i = omega (arith, e) in
-          ([], ap (λ j. take (n - j) (drop j xs)) same ∙ part-first xs i n b c)
-      by_gap (suc m) f e =
-          let r = by_gap m (f + 1) (omega (arith, e)) in (
-            slice_index_or xs f d ∷ r.0,
-            part-first xs f n (omega (arith, e, b)) c ∙ ap (λ ys. slice_index_or xs f d ∷ ys) r.1,
-          )
-
-  pub part-none : (xs : List X) (i n : ℕ) → n ≤ i → take (n - i) (drop i xs) ≡ []
-  part-none xs i n h = let e : n - i ≡ 0 = omega (arith, h) in ap (λ m. take m (drop i xs)) e
-
-  pub part-get : (P : X → Type 0) (xs : List X) (f i n : ℕ) → f ≤ i → i < n → n ≤ length xs
-      → AllByRecursion P (take (n - f) (drop f xs)) → P (slice_index_or xs i d)
-  part-get P xs f i n a b c h =
-      let s = part-split xs f i n a b c in
-      behind s.0 (subst (AllByRecursion P) s.1 h)
-    where
-      behind : (us : List X) → AllByRecursion P (us ++ slice_index_or xs i d ∷ take (n - (i + 1)) (drop (i + 1) xs))
-          → P (slice_index_or xs i d)
-      behind [] k = k.0
-      behind (u ∷ us) k = behind us k.1

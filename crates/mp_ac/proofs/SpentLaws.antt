@@ -42,7 +42,8 @@ use Rattle.mp_ac.specs.Stage.{IsAmong, ahead_at}
 use Rattle.mp_ac.specs.TakesOne.{items_among}
 use Rattle.mp_ac.proofs.AmongLaws.{behind_table-among, behind_table-items_by, from_in-items_by, in-table}
 use Rattle.mp_ac.proofs.SeekEach.{choice-term, terms-ascend}
-use Rattle.mp_ac.proofs.SeekLaws.{part-get, part-none, part-split, root-first}
+use Rattle.mp_ac.proofs.Parts.{part-get, part-none, part-split}
+use Rattle.mp_ac.proofs.SeekLaws.{root-first}
 use Rattle.mp_ac.proofs.WildLaws.{wild-behind}
 
 module _ (t : plain.Table) (table : IsTable t) (sig : Sig) (g : ℕ) (comm : comm_above sig (Some g) ≡ true)
@@ -69,7 +70,7 @@ module _ (t : plain.Table) (table : IsTable t) (sig : Sig) (g : ℕ) (comm : com
       let split = part-split d cs k.from k.at k.end c.0.0 c.0.1 o.0.within in
       let ended : k.end ≤ k.at + 1 = omega (arith, l.0) in
       let terms : terms_at t part ≡ terms_at t split.0 ++ u ∷ [] =
-      ap (terms_at t) (split.1 ∙ ap (λ rs. split.0 ++ r ∷ rs) (part-none d cs (k.at + 1) k.end ended))
+      ap (terms_at t) (split.1 ∙ ap (λ rs. split.0 ++ r ∷ rs) (part-none (k.at + 1) k.end cs ended))
       ∙ map-append (term_at t) split.0 (r ∷ []) in
       let up = terms-ascend t table.ascending part o.0.choices.ranks o.0.choices.ascending in
       let shaped : shape p u ≡ true = part-get d (λ q. shape p (term_at t q) ≡ true) cs k.from k.at k.end c.0.0 c.0.1

@@ -1,7 +1,6 @@
 -- The subpatterns of a list of patterns, by those of its first pattern.
 use Rattle.std.proofs.Common.{◌≡◌, ℕ, zero, suc, ◌≤◌, ◌<◌, ◌+◌, ◌-◌, List, [], ◌∷◌, ◌++◌, map, length, take, drop}
-use Rattle.std.proofs.Common.{refl, ap}
-use Rattle.std.proofs.Common.{◌∙◌, subst, arith}
+use Rattle.std.proofs.Common.{refl, ap, ◌∙◌, subst, arith}
 use Rattle.std.specs.Prelude.{Some, slice_get, slice_index_or}
 use Rattle.mp_pattern.specs.declared.pattern.Pattern as declared
 use Rattle.mp_pattern.specs.declared.pattern.Pattern.TheVariants.{Sym, App, Wild}
@@ -13,6 +12,7 @@ use Rattle.mp_pattern.specs.View.{pattern_tree}
 use Rattle.mp_pattern.proofs.ItemLaws.{slice_get-found, slice_get-second}
 use Rattle.mp_term.specs.declared.term.OpId.{OpId}
 use Rattle.mp_search.proofs.PartLaws.{first-pattern}
+use Rattle.mp_theory.proofs.InnerItems.{some_nodes}
 
 -- those below the root
 abbrev pub inner : Pattern → List Pattern
@@ -24,11 +24,6 @@ inner-is : (p : Pattern) → subpatterns p ≡ p ∷ inner p
 inner-is (symbol_pattern n) = refl
 inner-is (app_pattern g ps) = refl
 inner-is (wild_pattern w x) = refl
-
-pub some-nodes : (p : Pattern) → 1 ≤ pattern_nodes p
-some-nodes (symbol_pattern n) = omega arith
-some-nodes (app_pattern g ps) = omega arith
-some-nodes (wild_pattern w x) = omega arith
 
 module _ (list : List declared.Pattern) (first : declared.Pattern) (some : 1 ≤ length list)
     (is : first ≡ slice_index_or list 0 first) where
@@ -54,7 +49,7 @@ module _ (list : List declared.Pattern) (first : declared.Pattern) (some : 1 ≤
   children-fall g ps e = omega (arith, nodes-is, ap pattern_nodes e)
 
   pub later-fall : nodes later < nodes list
-  later-fall = omega (arith, nodes-is, some-nodes (pattern_tree first))
+  later-fall = omega (arith, nodes-is, some_nodes (pattern_tree first))
 
   -- a node below the first pattern, and one behind it
   pub inner-found : (n : ℕ) (p : Pattern) → (n ≡ 0 → ⊥) → slice_get (inner (pattern_tree first)) (n - 1) ≡ Some p

@@ -2,7 +2,7 @@
 use Rattle.std.proofs.Common.{◌≡◌, ℕ, List, [], ◌∷◌, Bool, true, false, refl, ap, sym, ◌∙◌, inl, inr}
 use Rattle.std.specs.Prelude.{Option, Some, ◌&&◌, not, if◌then◌else◌}
 use Rattle.std.specs.Ordering.{is_eq}
-use Rattle.std.proofs.lemmas.Bool.{and_parts}
+use Rattle.std.proofs.lemmas.Bool.{and_parts, not-true}
 use Rattle.mp_term.specs.Order.{tree_cmp}
 use Rattle.mp_term.specs.OrderLaws.{tree_cmp_total, tree_same}
 use Rattle.mp_term.specs.Pieces.{is_sublist, same, without}
@@ -50,10 +50,6 @@ behind-one U W (i ∷ []) h n = elim (is_eq (table_cmp W i.0)) as (λ b. (if b t
     none = []
 behind-one U W (i ∷ j ∷ is) h n = absurd (n.0 (inl (h i (inl refl) ∙ sym (h j (inr (inl refl))))))
 
-unset : (b : Bool) → not b ≡ true → b ≡ false
-unset true e = cc
-unset false e = refl
-
 module _ (sig : Sig) (g : ℕ) (w : Wildcard) (x : Option (List ℕ)) (left : List Tree) (owes : Bool) where
   abbrev pub here : Frame
   here = record { under = Some g; children = no_patterns; left = left; owes = owes }
@@ -77,7 +73,7 @@ module _ (sig : Sig) (g : ℕ) (w : Wildcard) (x : Option (List ℕ)) (left : Li
       let d = by_done (without tree_cmp e.terms left) (owes && not (is_left_out (wild_pattern w x) e.terms)) T h.1 in
       let l : e.terms ≡ left = whole e.terms left
       (sublist-from_piece tree_cmp tree_cmp_total tree_same (comm_above sig (Some g)) e.terms left c.0) d.0 in
-      let k : e.collapsed ≡ false = unset e.collapsed (and_parts (not e.collapsed) _ c.1).0 in
+      let k : e.collapsed ≡ false = not-true e.collapsed (and_parts (not e.collapsed) _ c.1).0 in
       ap (λ U. e ∷ U) d.1 ∙ ap (λ ls. record { terms = ls; collapsed = e.collapsed } ∷ []) l
       ∙ ap (λ b. record { terms = left; collapsed = b } ∷ []) k
 

@@ -82,10 +82,9 @@ fn seek_tail(
             mode,
         );
     }
-    match mode {
-        Mode::First => {}
-        _ => return false,
-    }
+    let Mode::First = mode else {
+        return false;
+    };
     if !bind_bag(asked.table, asked.vars, left, trail) {
         return false;
     }

@@ -1,20 +1,13 @@
 -- A pattern whose operations have no equation is its own normal form.
-use Rattle.std.proofs.Common.{◌≡◌, ℕ, false, List, [], ◌∷◌, ◌++◌, refl, ap, ◌∙◌}
-use Rattle.std.specs.Prelude.{◌||◌, flat_map}
+use Rattle.std.proofs.Common.{◌≡◌, ℕ, false, List, [], ◌∷◌, refl, ap, ◌∙◌}
+use Rattle.std.specs.Prelude.{◌||◌}
 use Rattle.std.proofs.lemmas.Bool.{or_parts}
 use Rattle.mp_term.specs.Signature.{Sig, is_assoc, is_comm, is_one}
 use Rattle.mp_pattern.specs.PatternTree.{Pattern, app_pattern, patterns}
-use Rattle.mp_pattern.specs.Normal.{parts, flattened, in_order, collapsed, normal_pattern, normal_patterns}
+use Rattle.mp_pattern.proofs.NormalLaws.{flattened-plain}
+use Rattle.mp_pattern.specs.Normal.{flattened, in_order, collapsed, normal_pattern, normal_patterns}
 
 module _ (sig : Sig) where
-  parts-plain : (f : ℕ) (p : Pattern) → is_assoc sig f ≡ false → parts sig f p ≡ p ∷ []
-  parts-plain f p h = rw h refl
-
-  flattened-plain : (f : ℕ) (ps : List Pattern) → is_assoc sig f ≡ false → flattened sig f ps ≡ ps
-  flattened-plain f [] h = refl
-  flattened-plain f (p ∷ ps) h =
-      ap (λ qs. qs ++ flat_map (parts sig f) ps) (parts-plain f p h) ∙ ap (λ qs. p ∷ qs) (flattened-plain f ps h)
-
   in_order-plain : (f : ℕ) (ps : List Pattern) → is_comm sig f ≡ false → in_order sig f ps ≡ ps
   in_order-plain f ps h = rw h refl
 
@@ -32,5 +25,5 @@ module _ (sig : Sig) where
       let p = or_parts (is_assoc sig f) _ none in
       let q = or_parts (is_comm sig f) (is_one sig f) p.1 in
       ap (λ qs. collapsed sig f (in_order sig f (flattened sig f qs))) normal
-      ∙ ap (λ qs. collapsed sig f (in_order sig f qs)) (flattened-plain f ps p.0)
+      ∙ ap (λ qs. collapsed sig f (in_order sig f qs)) (flattened-plain sig f ps p.0)
       ∙ ap (collapsed sig f) (in_order-plain f ps q.0) ∙ collapsed-plain f ps q.1

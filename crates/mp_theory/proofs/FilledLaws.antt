@@ -1,19 +1,28 @@
--- What the variables of a syntactic pattern take in turn is what solves its takes.
-use Rattle.std.proofs.Common.{◌≡◌, ℕ, List, [], ◌∷◌, ◌++◌, Bool, true, false, ◌&&◌, refl, ap, sym, ◌∙◌, subst}
+-- What the variables of a syntactic pattern take in turn is what solves its takes, and what they have as values.
+use Rattle.std.proofs.Common.{◌≡◌, ℕ, List, [], ◌∷◌, ◌++◌, Bool, true, false, ◌&&◌, refl, ap, sym, ◌∙◌, subst, inl, inr}
 use Rattle.std.specs.Prelude.{Option, Some, None, if◌then◌else◌, option_map, option_and_then}
+use Rattle.std.specs.Cmp.{Equal-is}
+use Rattle.std.specs.List.{AllByRecursion}
 use Rattle.std.specs.Ordering.{is_eq}
 use Rattle.std.proofs.lemmas.Bool.{and_parts}
 use Rattle.mp_term.specs.Tree.{Tree, symbol, app, Trees, no_trees, more_trees}
 use Rattle.mp_term.specs.Order.{tree_cmp}
+use Rattle.mp_term.specs.OrderLaws.{tree_same}
 use Rattle.mp_term.specs.Signature.{Sig}
+use Rattle.mp_term.proofs.ListLaws.{all-append, all-also}
 use Rattle.mp_pattern.specs.PatternTree.{Wildcard, dot, kind, plus, star, counted, optional, Pattern, symbol_pattern}
 use Rattle.mp_pattern.specs.PatternTree.{app_pattern, wild_pattern, Patterns, no_patterns, more_patterns}
 use Rattle.mp_pattern.specs.Syntactic.{is_plain, is_syntactic, all_syntactic}
-use Rattle.mp_pattern.specs.Value.{Value, one, Subst, same_name, value_of, merge}
+use Rattle.mp_pattern.specs.Value.{Value, one, seq, bag, Subst, same_name, value_of, merge}
+use Rattle.mp_pattern.proofs.NameLaws.{same_name-itself}
 use Rattle.mp_theory.specs.Filled.{bound, filled, all_filled}
+use Rattle.mp_theory.specs.Kept.{IsKept, Keeps}
 use Rattle.mp_theory.specs.Shape.{suits, of_kinds, all_of_kinds, takings, all_takings}
-use Rattle.mp_theory.specs.Solve.{bind, given, solve}
+use Rattle.mp_theory.specs.Solve.{Taken, bind, given, solve}
+use Rattle.mp_theory.proofs.KeptValues.{keeps-itself, keeps-then, bind-keeps}
+use Rattle.mp_theory.proofs.Merging.{from_if, if_either, mapped}
 use Rattle.mp_theory.proofs.ShapeLaws.{IsFlat, plain-flat, flat-given}
+use Rattle.mp_theory.proofs.Solving.{then_some}
 use Rattle.mp_theory.proofs.TrailLaws.{solve-append}
 
 -- a variable without a value gets a binding at the end
@@ -63,6 +72,47 @@ bind-again (b ∷ s) x u t e = by_name (same_name b.name x) e (bind-again s x u 
     by_name true k i = let q : b.value ≡ one u = cc in here b.name b.value q
     by_name false k i = ap (option_map (λ r. b ∷ r)) (i k) ∙ then_more (is_eq (tree_cmp u t))
 
+-- what is merged with one term comes out as that term
+merge-with_one : (v : Value) (t : Tree) (u : Value) → merge v (one t) ≡ Some u → u ≡ one t
+merge-with_one (one s) t u e =
+    let k = from_if (is_eq (tree_cmp s t)) (one s) u e in
+    sym k.1 ∙ ap one (tree_same s t ((Equal-is (tree_cmp s t)).0 k.0))
+merge-with_one (seq ts) t u e = cc
+merge-with_one (bag ts) t u e = cc
+
+-- a variable bound to a term has it as its value
+pub value_of-bind : (s : Subst) (x : List ℕ) (t : Tree) (r : Subst) → bind s x (one t) ≡ Some r
+    → value_of r x ≡ Some (one t)
+value_of-bind [] x t r e =
+    let q : record { name = x; value = one t } ∷ [] ≡ r = cc in
+    subst (λ z. value_of z x ≡ Some (one t)) q (rw (same_name-itself x) refl)
+value_of-bind (b ∷ s) x t r e =
+    elim (if_either (same_name b.name x) _ _ r e) [
+      | inl q ↦
+          let m = mapped (λ u. record { name = b.name; value = u } ∷ s) (merge b.value (one t)) r q.1 in
+          subst (λ z. value_of z x ≡ Some (one t)) m.2 (rw q.0 (ap Some (merge-with_one b.value t m.0 m.1)))
+      | inr q ↦
+          let m = mapped (λ z. b ∷ z) (bind s x (one t)) r q.1 in
+          subst (λ z. value_of z x ≡ Some (one t)) m.2 (rw q.0 (value_of-bind s x t m.0 m.1))
+    ]
+
+-- the variable has as its value the term that it takes
+pub record IsTaken (s : Subst) (a : Taken) : Type 0 where
+  pub term : Tree
+  pub is : a.terms ≡ term ∷ []
+  pub value : value_of s a.by.name ≡ Some (one term)
+
+-- it stays so
+kept-one : (t : Tree) (u : Value) → IsKept (one t) u → u ≡ one t
+kept-one t (one s) h = ap one (sym h)
+kept-one t (seq ts) h = absurd h
+kept-one t (bag ts) h = absurd h
+
+pub taken-kept : (s r : Subst) → Keeps s r → (a : Taken) → IsTaken s a → IsTaken r a
+taken-kept s r h a k =
+    let m = h a.by.name (one k.term) k.value in
+    record { term = k.term; is = k.is; value = m.1 ∙ ap Some (kept-one k.term m.0 m.2) }
+
 -- steps that give alike, and none
 then-same : (f g : Subst → Option Subst) → ((s : Subst) → f s ≡ g s) → (o : Option Subst)
     → option_and_then f o ≡ option_and_then g o
@@ -74,9 +124,17 @@ then-none : (f : Subst → Option Subst) → ((s : Subst) → f s ≡ None) → 
 then-none f h None = refl
 then-none f h (Some s) = h s
 
-then-some : (o : Option Subst) → o ≡ option_and_then (λ s. Some s) o
-then-some None = refl
-then-some (Some s) = refl
+then-itself : (o : Option Subst) → o ≡ option_and_then (λ s. Some s) o
+then-itself None = refl
+then-itself (Some s) = refl
+
+-- what a test that was passed let through
+from_then : (b : Bool) (o : Option Subst) (r : Subst) → (if b then o else None) ≡ Some r → o ≡ Some r
+from_then true o r e = e
+from_then false o r e = cc
+
+keeps-same : (s r : Subst) → Some s ≡ Some r → Keeps s r
+keeps-same s r e = let q : s ≡ r = cc in subst (Keeps s) q (keeps-itself s)
 
 module _ (sig : Sig) where
   -- what a wildcard of a syntactic pattern gives its variable
@@ -101,7 +159,7 @@ module _ (sig : Sig) where
           → (if b then bind s x (one t) else None)
           ≡ (if b then option_and_then (λ v. option_and_then (λ r. Some r) (bind s x v)) (given sig f w (t ∷ []))
           else None)
-      by_suits true e = then-some (bind s x (one t))
+      by_suits true e = then-itself (bind s x (one t))
           ∙ ap (option_and_then (λ v. option_and_then (λ r. Some r) (bind s x v))) (sym e)
       by_suits false e = refl
 
@@ -136,3 +194,48 @@ module _ (sig : Sig) where
         by_kinds true false i =
             then-none (all_filled sig ps ts) i (solve sig s (takings (Some g) p t))
         by_kinds false b i = refl
+
+  -- values stay while a pattern's variables are bound
+  bound-keeps : (x : Option (List ℕ)) (t : Tree) (s r : Subst) → bound x t s ≡ Some r → Keeps s r
+  bound-keeps None t s r e = keeps-same s r e
+  bound-keeps (Some x) t s r e = bind-keeps s x (one t) r e
+
+  mutual
+    pub filled-keeps : (p : Pattern) (t : Tree) (s r : Subst) → filled sig p t s ≡ Some r → Keeps s r
+    filled-keeps (symbol_pattern n) t s r e = keeps-same s r e
+    filled-keeps (app_pattern f ps) (symbol n) s r e = keeps-same s r e
+    filled-keeps (app_pattern f ps) (app g ts) s r e = all_filled-keeps ps ts s r e
+    filled-keeps (wild_pattern w x) t s r e = bound-keeps x t s r (from_then (suits sig w t) (bound x t s) r e)
+
+    all_filled-keeps : (ps : Patterns) (ts : Trees) (s r : Subst) → all_filled sig ps ts s ≡ Some r → Keeps s r
+    all_filled-keeps no_patterns ts s r e = keeps-same s r e
+    all_filled-keeps (more_patterns p ps) no_trees s r e = keeps-same s r e
+    all_filled-keeps (more_patterns p ps) (more_trees t ts) s r e =
+        let m = then_some (all_filled sig ps ts) (filled sig p t s) r e in
+        keeps-then s m.0 r (filled-keeps p t s m.0 m.1) (all_filled-keeps ps ts m.0 r m.2)
+
+  -- and each of them has as its value what it takes
+  bound-taken : (f : Option ℕ) (w : Wildcard) (x : Option (List ℕ)) (t : Tree) (s r : Subst) → bound x t s ≡ Some r
+      → AllByRecursion (IsTaken r) (takings f (wild_pattern w x) t)
+  bound-taken f w None t s r e = tt
+  bound-taken f w (Some x) t s r e = (record { term = t; is = refl; value = value_of-bind s x t r e }, tt)
+
+  mutual
+    pub filled-taken : (f : Option ℕ) (p : Pattern) (t : Tree) (s r : Subst) → filled sig p t s ≡ Some r
+        → AllByRecursion (IsTaken r) (takings f p t)
+    filled-taken f (symbol_pattern n) t s r e = tt
+    filled-taken f (app_pattern g ps) (symbol n) s r e = tt
+    filled-taken f (app_pattern g ps) (app h ts) s r e = all_filled-taken g ps ts s r e
+    filled-taken f (wild_pattern w x) t s r e =
+        bound-taken f w x t s r (from_then (suits sig w t) (bound x t s) r e)
+
+    all_filled-taken : (g : ℕ) (ps : Patterns) (ts : Trees) (s r : Subst) → all_filled sig ps ts s ≡ Some r
+        → AllByRecursion (IsTaken r) (all_takings g ps ts)
+    all_filled-taken g no_patterns ts s r e = tt
+    all_filled-taken g (more_patterns p ps) no_trees s r e = tt
+    all_filled-taken g (more_patterns p ps) (more_trees t ts) s r e =
+        let m = then_some (all_filled sig ps ts) (filled sig p t s) r e in
+        all-append (IsTaken r) (takings (Some g) p t) (all_takings g ps ts)
+        (all-also (IsTaken m.0) (IsTaken r) (taken-kept m.0 r (all_filled-keeps ps ts m.0 r m.2))
+        (takings (Some g) p t) (filled-taken (Some g) p t s m.0 m.1))
+        (all_filled-taken g ps ts m.0 r m.2)

@@ -1,9 +1,8 @@
-use Rattle.std.proofs.Common.{suc, ap, sym, ◌∙◌, arith, add-one, drop, true}
+use Rattle.std.proofs.Common.{suc, ap, sym, ◌∙◌, arith, add-one, drop}
 use Rattle.std.specs.Prelude.{None, not, ◌||◌}
 use Rattle.std.proofs.Math.Seq.{drop-cons}
 use Rattle.mp_pattern.specs.View.{pattern_tree}
 use Rattle.mp_table.specs.declared.rank.Rank.{Rank}
-use Rattle.mp_ac.specs.Clash.{clash}
 use Rattle.mp_ac.proofs.CandidateLaws.{goes_on}
 use Rattle.mp_ac.proofs.candidates.goes_on.Goals as goal
 

@@ -1,4 +1,4 @@
-use Rattle.std.proofs.Common.{◌≡◌, ◌+◌, ◌-◌, ◌++◌, ◌≤◌, List, drop, take, true}
+use Rattle.std.proofs.Common.{◌≡◌, ◌-◌, ◌++◌, ◌≤◌, List, drop, take, true}
 use Rattle.std.specs.List.{AllByRecursion, filter}
 use Rattle.mp_pattern.specs.View.{pattern_tree}
 use Rattle.mp_table.specs.Table.{term_at}
