@@ -18,14 +18,14 @@ use Rattle.mp_term.proofs.ListingLaws.{all_in, contains-from_in, in-from_contain
 use Rattle.mp_term.specs.declared.limits.TheConstants.{MAX_TERM_NODES}
 use Rattle.mp_table.specs.declared.limits.TheConstants.{MAX_CONSTANT_NODES}
 use Rattle.mp_table.specs.declared.entry.Entry.{Entry}
+use Rattle.mp_table.specs.declared.node.Node.{Node}
 use Rattle.mp_table.specs.declared.piece.Piece.{Piece}
-use Rattle.mp_table.specs.declared.preorder.Preorder.{Preorder}
 use Rattle.mp_table.specs.declared.rank.Rank.{Rank}
 use Rattle.mp_table.specs.Pieces.{piece_terms, ArePieces, AreRanks}
 use Rattle.mp_table.specs.Preorder.{all_preorder}
 use Rattle.mp_table.specs.Reading.{entry_trees, AreEntries}
 use Rattle.mp_table.specs.Table.{IsTableOf}
-use Rattle.mp_table.specs.Text.{shown, IsText}
+use Rattle.mp_table.specs.Text.{shown, counts, IsText}
 use Rattle.mp_table.proofs.NormalSubterms.{normal_subterms}
 use Rattle.mp_table.proofs.PreorderLaws.{preorder_is, length-all_preorder, subterm_of-from_in, in-from_subterm_of}
 use Rattle.mp_table.proofs.PreorderLaws.{node_count_is}
@@ -48,23 +48,23 @@ all-from_in P (t ∷ ts) h = (h t (inl refl), all-from_in P ts (λ u i. h u (inr
 first-preorder : (t : Tree) (ts : List Tree) → term_in (all_preorder (t ∷ ts)) 0 ≡ t
 first-preorder t ts = ap (λ l. term_in (l ++ all_preorder ts) 0) (preorder_is t)
 
-module _ (subject : Tree) (constants : List Tree) (text : Preorder)
+module _ (subject : Tree) (constants : List Tree) (text : List Node)
     (terms : shown text ≡ all_preorder (subject ∷ constants))
-    (counts : text.nodes.items ≡ map node_count (all_preorder (subject ∷ constants))) where
+    (widths : counts text ≡ map node_count (all_preorder (subject ∷ constants))) where
   -- it is a text
   pub is_text : IsText text
   is_text = record {
     roots = subject ∷ constants;
     terms = terms;
-    nodes = counts ∙ ap (map node_count) (sym terms);
+    nodes = widths ∙ ap (map node_count) (sym terms);
   }
 
-  pub some_place : 0 < length text.terms.items
+  pub some_place : 0 < length text
   some_place =
       omega (
         arith,
         ap length terms,
-        length-map text.terms.items (λ t. tree t.now),
+        length-map text (λ n. tree n.term.now),
         length-all_preorder (subject ∷ constants),
         node_count_is subject,
       )
@@ -73,7 +73,7 @@ module _ (subject : Tree) (constants : List Tree) (text : Preorder)
   module _ (ps : List Piece) (rs : List ℕ) (ranks : AreRanks (shown text) (piece_terms ps) rs) (root : ℕ)
       (read : root ≡ get_or rs 0 root) where
     some_term : 0 < length (shown text)
-    some_term = omega (arith, some_place, length-map text.terms.items (λ t. tree t.now))
+    some_term = omega (arith, some_place, length-map text (λ n. tree n.term.now))
 
     -- is one
     pub root-within : root < length ps

@@ -46,3 +46,14 @@ within-set rs place r n within below known i d h =
           get_or-set_other rs place i r d (λ same. let no : nat_eq i place ≡ true = grind (arith, nat_tests) in cc) in
           omega (arith, other, known i d (grind (arith, nat_tests, h)))
     ] refl
+
+-- one number more is below a bound
+pub within-more : (rs : List ℕ) (place n : ℕ) → ((d : ℕ) → get_or rs place d < n)
+    → ((i d : ℕ) → i < place → get_or rs i d < n) → (i d : ℕ) → i < place + 1 → get_or rs i d < n
+within-more rs place n here known i d h =
+    elim (nat_eq i place) as (λ b. nat_eq i place ≡ b → get_or rs i d < n) [
+      | true ↦ λ e.
+          let same : place ≡ i = grind (arith, nat_tests) in
+          subst (λ j. get_or rs j d < n) same (here d)
+      | false ↦ λ e. known i d (grind (arith, nat_tests, h))
+    ] refl

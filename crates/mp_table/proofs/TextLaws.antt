@@ -4,17 +4,17 @@ use Rattle.std.proofs.Common.{refl, ap, sym, ◌∙◌, subst, inl, inr, arith, 
 use Rattle.std.proofs.Common.{true, false}
 use Rattle.std.specs.Prelude.{nat_lt}
 use Rattle.std.proofs.lemmas.Bool.Decides.{nat_tests}
-use Rattle.std.proofs.lemmas.List.{length-map, drop_at, get_or-map, take-append-drop}
+use Rattle.std.proofs.lemmas.List.{drop_at, get_or-map, take-append-drop}
 use Rattle.std.proofs.lemmas.List.{drop_more}
 use Rattle.std.proofs.lemmas.List.{drop-drop, take_all, take_more}
 use Rattle.mp_term.specs.Listing.{In}
 use Rattle.mp_term.specs.Size.{node_count, all_nodes}
 use Rattle.mp_term.specs.Tree.{Tree, symbol, trees}
 use Rattle.mp_term.proofs.NormalSize.{all_nodes-append}
-use Rattle.mp_table.specs.declared.preorder.Preorder.{Preorder}
+use Rattle.mp_table.specs.declared.node.Node.{Node}
 use Rattle.mp_table.specs.Preorder.{preorder, all_preorder}
 use Rattle.mp_table.specs.Subterms.{arguments}
-use Rattle.mp_table.specs.Text.{shown, IsText}
+use Rattle.mp_table.specs.Text.{shown, counts, IsText}
 use Rattle.mp_table.proofs.PreorderLaws.{preorder_is, node_count_is, length-all_preorder, Begins}
 use Rattle.mp_table.proofs.PreorderLaws.{all_begin}
 
@@ -40,15 +40,17 @@ all_preorder-append (t ∷ ts) us =
     ap (λ l. preorder t ++ l) (all_preorder-append ts us)
     ∙ sym (append_assoc (preorder t) (all_preorder ts) (all_preorder us))
 
-module _ (text : Preorder) (is : IsText text) where
+-- the count of a place
+pub count_at : (text : List Node) (i : ℕ) (d : Node) → i < length text
+    → (get_or text i d).nodes ≡ get_or (counts text) i 0
+count_at text i d h = sym (get_or-map (λ n. n.nodes) text i d 0 h)
+
+module _ (text : List Node) (is : IsText text) where
   abbrev os : List Tree
   os = shown text
 
   abbrev nodes : List ℕ
-  nodes = text.nodes.items
-
-  pub length-nodes : length nodes ≡ length os
-  length-nodes = ap length is.nodes ∙ length-map os node_count
+  nodes = counts text
 
   -- the subterms of what stands at a place follow it
   pub begins_at : (i : ℕ) → i < length os → Begins os i (symbol [])

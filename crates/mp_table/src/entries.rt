@@ -1,16 +1,16 @@
 //! The entries of a table.
-ghost use Rattle.std.specs.Prelude.{◌≡◌, ◌<◌, map, length, take, drop, IfOk, OnOk, slice_index_or, []};
+ghost use Rattle.std.specs.Prelude.{◌≡◌, ◌<◌, List, map, length, take, drop, IfOk, OnOk, slice_index_or, []};
 ghost use Rattle.std.specs.List.{AllByRecursion};
-ghost use Rattle.mp_term.specs.Tree.{symbol};
+ghost use Rattle.mp_term.specs.Tree.{Tree, symbol};
 ghost use Rattle.mp_term.specs.View.{tree};
 ghost use Rattle.mp_table.specs.Subterms.{arguments};
 ghost use Rattle.mp_table.specs.Reading.{with_head, IsEntryOf, AreEntries};
 ghost use Rattle.mp_table.specs.Pieces.{piece_terms, ArePieces, AreRanks};
-ghost use Rattle.mp_table.specs.Text.{IsText, shown};
+ghost use Rattle.mp_table.specs.Text.{IsText, shown, ranks};
 
 use crate::entry::{Entry, OwnHead};
-use crate::pieces::Ranked;
-use crate::preorder::Preorder;
+use crate::node::Node;
+use crate::piece::Piece;
 use crate::rank::Rank;
 use mp_term::{Memory, Term};
 use std::alloc::Global;
@@ -33,28 +33,21 @@ fn head_of(alloc: Global, term: &Term) -> Result<OwnHead, Memory>
 }
 
 // Adds the ranks of the arguments of the subterm at a place.
-fn push_ranks(
-    args: &mut Vec<Rank>,
-    text: &Preorder<'_>,
-    ranked: &Ranked<'_>,
-    start: usize,
-) -> Result<(), Memory>
+fn push_ranks(args: &mut Vec<Rank>, text: &[Node<'_>], start: usize) -> Result<(), Memory>
     requires text { IsText text.now }
-    requires ranks { AreRanks (shown text.now) (piece_terms ranked.now.pieces.items) ranked.now.ranks.items }
-    requires start { start < length text.now.nodes.items }
+    requires start { start < length text.now }
     ensures kept { OnOk result (take (length args.old.items) args.new.items ≡ args.old.items) }
-    ensures terms { OnOk result
-        (map (λ r. slice_index_or (piece_terms ranked.now.pieces.items) r.0 (symbol []))
-        (drop (length args.old.items) args.new.items)
+    ensures terms { OnOk result ((us : List Tree) → AreRanks (shown text.now) us (ranks text.now) →
+        map (λ r. slice_index_or us r.0 (symbol [])) (drop (length args.old.items) args.new.items)
         ≡ arguments (slice_index_or (shown text.now) start (symbol []))) }
-    ensures within { OnOk result (AllByRecursion (λ r. r.0 < length ranked.now.pieces.items)
-        (drop (length args.old.items) args.new.items)) }
+    ensures within { OnOk result ((us : List Tree) → AreRanks (shown text.now) us (ranks text.now) →
+        AllByRecursion (λ r. r.0 < length us) (drop (length args.old.items) args.new.items)) }
 {
-    let end = start + text.nodes[start] as usize;
+    let end = start + text[start].nodes as usize;
     let mut next = start + 1;
     while next < end {
-        args.push(Rank(ranked.ranks[next]))?;
-        next += text.nodes[next] as usize;
+        args.push(Rank(text[next].rank))?;
+        next += text[next].nodes as usize;
     }
     Ok(())
 }
@@ -63,22 +56,20 @@ fn push_ranks(
 fn entry_of(
     alloc: Global,
     args: &mut Vec<Rank>,
-    text: &Preorder<'_>,
-    ranked: &Ranked<'_>,
+    text: &[Node<'_>],
     start: usize,
 ) -> Result<Entry, Memory>
     requires text { IsText text.now }
-    requires ranks { AreRanks (shown text.now) (piece_terms ranked.now.pieces.items) ranked.now.ranks.items }
-    requires start { start < length text.now.nodes.items }
+    requires start { start < length text.now }
     ensures kept { OnOk result (take (length args.old.items) args.new.items ≡ args.old.items) }
-    ensures entry { IfOk result (IsEntryOf args.new.items (piece_terms ranked.now.pieces.items)
-        (slice_index_or (shown text.now) start (symbol []))) }
+    ensures entry { IfOk result (λ e. (us : List Tree) → AreRanks (shown text.now) us (ranks text.now) →
+        IsEntryOf args.new.items us (slice_index_or (shown text.now) start (symbol [])) e) }
 {
-    let head = head_of(alloc, text.terms[start])?;
+    let head = head_of(alloc, text[start].term)?;
     let from = args.len();
-    push_ranks(args, text, ranked, start)?;
+    push_ranks(args, text, start)?;
     let end = args.len();
-    let nodes = u64::from(text.nodes[start]);
+    let nodes = u64::from(text[start].nodes);
     Ok(Entry {
         head,
         from,
@@ -90,18 +81,18 @@ fn entry_of(
 // The entries of the subterms at the pieces, with the ranks of all their arguments.
 pub(crate) fn entries_of(
     alloc: Global,
-    text: &Preorder<'_>,
-    ranked: &Ranked<'_>,
+    text: &[Node<'_>],
+    pieces: &[Piece<'_>],
 ) -> Result<Entries, Memory>
     requires text { IsText text.now }
-    requires pieces { ArePieces (shown text.now) ranked.now.pieces.items }
-    requires ranks { AreRanks (shown text.now) (piece_terms ranked.now.pieces.items) ranked.now.ranks.items }
-    ensures { IfOk result (λ e. AreEntries e.args.items e.entries.items (piece_terms ranked.now.pieces.items)) }
+    requires pieces { ArePieces (shown text.now) pieces.now }
+    requires ranks { AreRanks (shown text.now) (piece_terms pieces.now) (ranks text.now) }
+    ensures { IfOk result (λ e. AreEntries e.args.items e.entries.items (piece_terms pieces.now)) }
 {
-    let mut entries = Vec::with_capacity(alloc, ranked.pieces.len())?;
-    let mut args = Vec::with_capacity(alloc, text.nodes.len())?;
-    for piece in &ranked.pieces {
-        entries.push(entry_of(alloc, &mut args, text, ranked, piece.start)?)?;
+    let mut entries = Vec::with_capacity(alloc, pieces.len())?;
+    let mut args = Vec::with_capacity(alloc, text.len())?;
+    for piece in pieces {
+        entries.push(entry_of(alloc, &mut args, text, piece.start)?)?;
     }
     Ok(Entries { entries, args })
 }

@@ -6,6 +6,7 @@ mod entry;
 mod guess;
 mod laws;
 mod limits;
+mod node;
 mod piece;
 mod pieces;
 mod preorder;

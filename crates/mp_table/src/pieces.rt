@@ -1,5 +1,5 @@
 //! The pieces of a text.
-ghost use Rattle.std.specs.Prelude.{◌≡◌, ◌<◌, ◌≤◌, ◌^◌, map, length, IfOk, IfSome, OnOk, slice_index_or, [], true};
+ghost use Rattle.std.specs.Prelude.{◌≡◌, ◌<◌, ◌≤◌, ◌^◌, length, IfOk, IfSome, OnOk, slice_index_or, [], true};
 ghost use Rattle.std.specs.Prelude.{None};
 ghost use Rattle.std.specs.List.{AllByRecursion, insert};
 ghost use Rattle.std.specs.List.Sorted.{IsStrictlySortedBy};
@@ -8,20 +8,15 @@ ghost use Rattle.mp_term.specs.Order.{tree_cmp};
 ghost use Rattle.mp_term.specs.Tree.{Tree, symbol};
 ghost use Rattle.mp_term.specs.View.{tree};
 ghost use Rattle.mp_table.specs.Pieces.{is_symbol, piece_terms, IsPiece, ArePieces, AreSomeRanks, AreRanks};
+ghost use Rattle.mp_table.specs.Text.{shown, counts, ranks, AreUnranked};
 
 use crate::guess::{Guesses, digest_of};
+use crate::node::Node;
 use crate::piece::Piece;
 use crate::rank::Rank;
 use mp_term::{Memory, Term, compare};
 use std::alloc::Global;
 use std::cmp::Ordering;
-
-// The pieces of a text, and for each place the rank of the subterm there.
-#[derive(Drop)]
-pub(crate) struct Ranked<'a> {
-    pub(crate) pieces: Vec<Piece<'a>>,
-    pub(crate) ranks: Vec<u32>,
-}
 
 // Pieces of a text, and for each place where such a piece is guessed to begin that has the same term: no place, where
 // each has a piece of its own.
@@ -64,20 +59,20 @@ fn place_of(pieces: &[Piece<'_>], term: &Term) -> Option<usize>
 // Adds a piece for the subterm at a place to ascending pieces, if none of them has its term.
 fn add_piece<'a>(
     pieces: &mut Vec<Piece<'a>>,
-    terms: &[&'a Term],
+    nodes: &[Node<'a>],
     start: usize,
 ) -> Result<(), Memory>
     requires ascending { IsStrictlySortedBy tree_cmp (piece_terms pieces.old.items) }
-    requires pieces { AllByRecursion (IsPiece (map (λ t. tree t.now) terms.now)) pieces.old.items }
-    requires start { start < length terms.now }
+    requires pieces { AllByRecursion (IsPiece (shown nodes.now)) pieces.old.items }
+    requires start { start < length nodes.now }
     ensures ascending { OnOk result (IsStrictlySortedBy tree_cmp (piece_terms pieces.new.items)) }
-    ensures pieces { OnOk result (AllByRecursion (IsPiece (map (λ t. tree t.now) terms.now)) pieces.new.items) }
+    ensures pieces { OnOk result (AllByRecursion (IsPiece (shown nodes.now)) pieces.new.items) }
     ensures kept { OnOk result
         ((u : Tree) → In u (piece_terms pieces.old.items) → In u (piece_terms pieces.new.items)) }
     ensures there { OnOk result
-        (In (slice_index_or (map (λ t. tree t.now) terms.now) start (symbol [])) (piece_terms pieces.new.items)) }
+        (In (slice_index_or (shown nodes.now) start (symbol [])) (piece_terms pieces.new.items)) }
 {
-    let term = terms[start];
+    let term = nodes[start].term;
     if let Some(place) = place_of(pieces, term) {
         pieces.insert(place, Piece { term, start })?;
     }
@@ -87,36 +82,37 @@ fn add_piece<'a>(
 // Adds a piece for each subterm that is a symbol, or for each that is none, to ascending pieces.
 fn add_pieces<'a>(
     pieces: &mut Vec<Piece<'a>>,
-    terms: &[&'a Term],
+    nodes: &[Node<'a>],
     symbols: bool,
 ) -> Result<(), Memory>
     requires ascending { IsStrictlySortedBy tree_cmp (piece_terms pieces.old.items) }
-    requires pieces { AllByRecursion (IsPiece (map (λ t. tree t.now) terms.now)) pieces.old.items }
+    requires pieces { AllByRecursion (IsPiece (shown nodes.now)) pieces.old.items }
     ensures ascending { OnOk result (IsStrictlySortedBy tree_cmp (piece_terms pieces.new.items)) }
-    ensures pieces { OnOk result (AllByRecursion (IsPiece (map (λ t. tree t.now) terms.now)) pieces.new.items) }
+    ensures pieces { OnOk result (AllByRecursion (IsPiece (shown nodes.now)) pieces.new.items) }
     ensures kept { OnOk result
         ((u : Tree) → In u (piece_terms pieces.old.items) → In u (piece_terms pieces.new.items)) }
     ensures all { OnOk result
-        (AllByRecursion (λ t. is_symbol (tree t.now) ≡ symbols → In (tree t.now) (piece_terms pieces.new.items))
-        terms.now) }
+        (AllByRecursion
+        (λ n. is_symbol (tree n.term.now) ≡ symbols → In (tree n.term.now) (piece_terms pieces.new.items))
+        nodes.now) }
 {
-    for (start, term) in terms.iter().enumerate() {
-        if is_symbol(*term) != symbols {
+    for (start, node) in nodes.iter().enumerate() {
+        if is_symbol(node.term) != symbols {
             continue;
         }
-        add_piece(pieces, terms, start)?;
+        add_piece(pieces, nodes, start)?;
     }
     Ok(())
 }
 
 // A piece for each distinct subterm, ascending, where there are few. Symbols are put in first, as they come first in
 // the term order.
-fn few_pieces<'a>(alloc: Global, terms: &[&'a Term]) -> Result<Vec<Piece<'a>>, Memory>
-    ensures { IfOk result (λ ps. ArePieces (map (λ t. tree t.now) terms.now) ps.items) }
+fn few_pieces<'a>(alloc: Global, nodes: &[Node<'a>]) -> Result<Vec<Piece<'a>>, Memory>
+    ensures { IfOk result (λ ps. ArePieces (shown nodes.now) ps.items) }
 {
-    let mut pieces = Vec::with_capacity(alloc, terms.len())?;
-    add_pieces(&mut pieces, terms, true)?;
-    add_pieces(&mut pieces, terms, false)?;
+    let mut pieces = Vec::with_capacity(alloc, nodes.len())?;
+    add_pieces(&mut pieces, nodes, true)?;
+    add_pieces(&mut pieces, nodes, false)?;
     Ok(pieces)
 }
 
@@ -129,33 +125,36 @@ fn has_term(pieces: &[Piece<'_>], place: usize, term: &Term) -> bool
 }
 
 // A piece for each subterm but those whose term is that of the piece that is guessed.
-fn new_pieces<'a>(alloc: Global, terms: &[&'a Term]) -> Result<Found<'a>, Memory>
+fn new_pieces<'a>(alloc: Global, nodes: &[Node<'a>]) -> Result<Found<'a>, Memory>
     ensures pieces { IfOk result
-        (λ f. AllByRecursion (IsPiece (map (λ t. tree t.now) terms.now)) f.pieces.items) }
-    ensures all { IfOk result (λ f. AllByRecursion (λ t. In (tree t.now) (piece_terms f.pieces.items)) terms.now) }
+        (λ f. AllByRecursion (IsPiece (shown nodes.now)) f.pieces.items) }
+    ensures all { IfOk result (λ f. AllByRecursion (λ n. In (tree n.term.now) (piece_terms f.pieces.items)) nodes.now) }
 {
     let mut pieces = Vec::new(alloc);
-    let mut firsts = Vec::with_capacity(alloc, terms.len())?;
-    let mut guesses = Guesses::new(alloc, terms.len())?;
-    for (start, term) in terms.iter().enumerate() {
-        let digest = digest_of(*term);
+    let mut firsts = Vec::with_capacity(alloc, nodes.len())?;
+    let mut guesses = Guesses::new(alloc, nodes.len())?;
+    for (start, node) in nodes.iter().enumerate() {
+        let digest = digest_of(node.term);
         let near = guesses.at(digest);
-        if has_term(&pieces, near, *term) {
+        if has_term(&pieces, near, node.term) {
             firsts.push(pieces[near].start)?;
             continue;
         }
         guesses.put(digest, pieces.len());
         firsts.push(start)?;
-        pieces.push(Piece { term: *term, start })?;
+        pieces.push(Piece {
+            term: node.term,
+            start,
+        })?;
     }
     Ok(Found { pieces, firsts })
 }
 
 // A piece for each distinct subterm, ascending, where there are many.
-fn many_pieces<'a>(alloc: Global, terms: &[&'a Term]) -> Result<Found<'a>, Memory>
-    ensures { IfOk result (λ f. ArePieces (map (λ t. tree t.now) terms.now) f.pieces.items) }
+fn many_pieces<'a>(alloc: Global, nodes: &[Node<'a>]) -> Result<Found<'a>, Memory>
+    ensures { IfOk result (λ f. ArePieces (shown nodes.now) f.pieces.items) }
 {
-    let mut found = new_pieces(alloc, terms)?;
+    let mut found = new_pieces(alloc, nodes)?;
     found.pieces.sort()?;
     found.pieces.dedup();
     Ok(found)
@@ -165,35 +164,36 @@ fn many_pieces<'a>(alloc: Global, terms: &[&'a Term]) -> Result<Found<'a>, Memor
 const FEW: usize = 40;
 
 // A piece for each distinct subterm, ascending.
-fn found_pieces<'a>(alloc: Global, terms: &[&'a Term]) -> Result<Found<'a>, Memory>
-    ensures { IfOk result (λ f. ArePieces (map (λ t. tree t.now) terms.now) f.pieces.items) }
+fn found_pieces<'a>(alloc: Global, nodes: &[Node<'a>]) -> Result<Found<'a>, Memory>
+    ensures { IfOk result (λ f. ArePieces (shown nodes.now) f.pieces.items) }
 {
-    if terms.len() > FEW {
-        return many_pieces(alloc, terms);
+    if nodes.len() > FEW {
+        return many_pieces(alloc, nodes);
     }
     Ok(Found {
-        pieces: few_pieces(alloc, terms)?,
+        pieces: few_pieces(alloc, nodes)?,
         firsts: Vec::new(alloc),
     })
 }
 
-// For each place where a piece begins its rank, and a number above all ranks for each other place.
-fn own_ranks(alloc: Global, terms: &[&Term], pieces: &[Piece<'_>]) -> Result<Vec<u32>, Memory>
-    requires pieces { AllByRecursion (IsPiece (map (λ t. tree t.now) terms.now)) pieces.now }
+// Tells the ranks of the places where the pieces begin.
+fn own_ranks(nodes: &mut [Node<'_>], pieces: &[Piece<'_>])
+    requires pieces { AllByRecursion (IsPiece (shown nodes.old)) pieces.now }
     requires short { length pieces.now < 2 ^ 32 }
-    ensures { IfOk result (λ rs. AreSomeRanks (map (λ t. tree t.now) terms.now) (piece_terms pieces.now) rs.items) }
+    requires unranked { AreUnranked nodes.old }
+    ensures terms { shown nodes.new ≡ shown nodes.old }
+    ensures nodes { counts nodes.new ≡ counts nodes.old }
+    ensures ranks { AreSomeRanks (shown nodes.old) (piece_terms pieces.now) (ranks nodes.new) }
 {
-    let mut ranks = vec![in alloc; u32::MAX; terms.len()]?;
     for (rank, piece) in pieces.iter().enumerate() {
-        ranks[piece.start] = rank as u32;
+        nodes[piece.start].rank = rank as u32;
     }
-    Ok(ranks)
 }
 
 // The rank where the same term is guessed to begin as at a place.
-fn guess_at(ranks: &[u32], firsts: &[usize], place: usize) -> usize {
-    if place < firsts.len() && firsts[place] < ranks.len() {
-        return ranks[firsts[place]] as usize;
+fn guess_at(nodes: &[Node<'_>], firsts: &[usize], place: usize) -> usize {
+    if place < firsts.len() && firsts[place] < nodes.len() {
+        return nodes[firsts[place]].rank as usize;
     }
     usize::MAX
 }
@@ -215,36 +215,40 @@ fn rank_of(pieces: &[Piece<'_>], term: &Term, guess: usize) -> Rank
     }
 }
 
-// The rank of the subterm at each place.
-fn ranks_of(alloc: Global, terms: &[&Term], found: &Found<'_>) -> Result<Vec<u32>, Memory>
-    requires pieces { ArePieces (map (λ t. tree t.now) terms.now) found.now.pieces.items }
+// Tells the rank of the subterm at each place.
+fn tell_ranks(nodes: &mut [Node<'_>], found: &Found<'_>)
+    requires pieces { ArePieces (shown nodes.old) found.now.pieces.items }
     requires short { length found.now.pieces.items < 2 ^ 32 }
-    ensures { IfOk result
-        (λ rs. AreRanks (map (λ t. tree t.now) terms.now) (piece_terms found.now.pieces.items) rs.items) }
+    requires unranked { AreUnranked nodes.old }
+    ensures terms { shown nodes.new ≡ shown nodes.old }
+    ensures nodes { counts nodes.new ≡ counts nodes.old }
+    ensures ranks { AreRanks (shown nodes.old) (piece_terms found.now.pieces.items) (ranks nodes.new) }
 {
-    let mut ranks = own_ranks(alloc, terms, &found.pieces)?;
-    for (place, term) in terms.iter().enumerate() {
-        if (ranks[place] as usize) < found.pieces.len() {
-            continue;
+    own_ranks(nodes, &found.pieces);
+    let mut place = 0;
+    while place < nodes.len() {
+        if nodes[place].rank as usize >= found.pieces.len() {
+            let guess = guess_at(nodes, &found.firsts, place);
+            nodes[place].rank = rank_of(&found.pieces, nodes[place].term, guess).0;
         }
-        let guess = guess_at(&ranks, &found.firsts, place);
-        ranks[place] = rank_of(&found.pieces, *term, guess).0;
+        place += 1;
     }
-    Ok(ranks)
 }
 
-// A piece for each distinct subterm, ascending, and the ranks of all places.
-pub(crate) fn distinct_pieces<'a>(alloc: Global, terms: &[&'a Term]) -> Result<Ranked<'a>, Memory>
-    requires { length terms.now < 2 ^ 32 }
-    ensures pieces { IfOk result (λ r. ArePieces (map (λ t. tree t.now) terms.now) r.pieces.items) }
-    ensures few { IfOk result (λ r. length r.pieces.items ≤ length terms.now) }
-    ensures ranks { IfOk result
-        (λ r. AreRanks (map (λ t. tree t.now) terms.now) (piece_terms r.pieces.items) r.ranks.items) }
+// A piece for each distinct subterm, ascending. The ranks of all places are told.
+pub(crate) fn distinct_pieces<'a>(
+    alloc: Global,
+    nodes: &mut [Node<'a>],
+) -> Result<Vec<Piece<'a>>, Memory>
+    requires short { length nodes.old < 2 ^ 32 }
+    requires unranked { AreUnranked nodes.old }
+    ensures terms { shown nodes.new ≡ shown nodes.old }
+    ensures nodes { counts nodes.new ≡ counts nodes.old }
+    ensures pieces { IfOk result (λ ps. ArePieces (shown nodes.old) ps.items) }
+    ensures few { IfOk result (λ ps. length ps.items ≤ length nodes.old) }
+    ensures ranks { IfOk result (λ ps. AreRanks (shown nodes.old) (piece_terms ps.items) (ranks nodes.new)) }
 {
-    let found = found_pieces(alloc, terms)?;
-    let ranks = ranks_of(alloc, terms, &found)?;
-    Ok(Ranked {
-        pieces: found.pieces,
-        ranks,
-    })
+    let found = found_pieces(alloc, nodes)?;
+    tell_ranks(nodes, &found);
+    Ok(found.pieces)
 }

@@ -4,45 +4,49 @@ ghost use Rattle.mp_term.specs.View.{tree};
 ghost use Rattle.mp_term.specs.Size.{node_count, all_nodes};
 ghost use Rattle.mp_table.specs.Subterms.{arguments};
 ghost use Rattle.mp_table.specs.Preorder.{preorder, all_preorder};
+ghost use Rattle.mp_table.specs.Text.{shown, counts, AreUnranked};
 
+use crate::node::Node;
 use mp_term::{Memory, Term, Terms};
 use std::alloc::Global;
 
-// The subterms of terms in preorder, and the number of nodes of each.
-#[derive(Drop)]
-pub(crate) struct Preorder<'a> {
-    pub(crate) terms: Vec<&'a Term>,
-    pub(crate) nodes: Vec<u32>,
-}
-
 // Adds a term and its subterms.
 #[cycle(push_subterms)]
-fn push_subterms<'a>(found: &mut Preorder<'a>, term: &'a Term) -> Result<(), Memory>
-    requires { length found.old.nodes.items + node_count (tree term.now) < 2 ^ 32 }
-    ensures terms { OnOk result
-        (map (λ t. tree t.now) found.new.terms.items
-        ≡ map (λ t. tree t.now) found.old.terms.items ++ preorder (tree term.now)) }
+fn push_subterms<'a>(found: &mut Vec<Node<'a>>, term: &'a Term) -> Result<(), Memory>
+    requires short { length found.old.items + node_count (tree term.now) < 2 ^ 32 }
+    requires unranked { AreUnranked found.old.items }
+    ensures terms { OnOk result (shown found.new.items ≡ shown found.old.items ++ preorder (tree term.now)) }
     ensures nodes { OnOk result
-        (found.new.nodes.items ≡ found.old.nodes.items ++ map node_count (preorder (tree term.now))) }
+        (counts found.new.items ≡ counts found.old.items ++ map node_count (preorder (tree term.now))) }
+    ensures unranked { OnOk result (AreUnranked found.new.items) }
 {
-    let start = found.nodes.len();
-    found.terms.push(term)?;
-    found.nodes.push(1)?;
+    let start = found.len();
+    found.push(Node {
+        term,
+        nodes: 1,
+        rank: u32::MAX,
+    })?;
     push_arguments(found, term)?;
-    found.nodes[start] = (found.nodes.len() - start) as u32;
+    let nodes = (found.len() - start) as u32;
+    found[start] = Node {
+        term,
+        nodes,
+        rank: u32::MAX,
+    };
     Ok(())
 }
 
 // Adds the arguments of a term and their subterms.
 #[cycle(push_subterms)]
-fn push_arguments<'a>(found: &mut Preorder<'a>, term: &'a Term) -> Result<(), Memory>
-    requires { length found.old.nodes.items + all_nodes (arguments (tree term.now)) < 2 ^ 32 }
+fn push_arguments<'a>(found: &mut Vec<Node<'a>>, term: &'a Term) -> Result<(), Memory>
+    requires short { length found.old.items + all_nodes (arguments (tree term.now)) < 2 ^ 32 }
+    requires unranked { AreUnranked found.old.items }
     ensures terms { OnOk result
-        (map (λ t. tree t.now) found.new.terms.items
-        ≡ map (λ t. tree t.now) found.old.terms.items ++ all_preorder (arguments (tree term.now))) }
+        (shown found.new.items ≡ shown found.old.items ++ all_preorder (arguments (tree term.now))) }
     ensures nodes { OnOk result
-        (found.new.nodes.items
-        ≡ found.old.nodes.items ++ map node_count (all_preorder (arguments (tree term.now)))) }
+        (counts found.new.items
+        ≡ counts found.old.items ++ map node_count (all_preorder (arguments (tree term.now)))) }
+    ensures unranked { OnOk result (AreUnranked found.new.items) }
 {
     if let Term::App(_, args) = term {
         for arg in args.as_slice() {
@@ -60,17 +64,14 @@ pub(crate) fn collect<'a>(
     alloc: Global,
     subject: &'a Term,
     constants: &'a Terms,
-) -> Result<Preorder<'a>, Memory>
+) -> Result<Vec<Node<'a>>, Memory>
     requires { node_count (tree subject.now) + all_nodes constants.now < 2 ^ 32 }
-    ensures terms { IfOk result
-        (λ p. map (λ t. tree t.now) p.terms.items ≡ all_preorder (tree subject.now ∷ constants.now)) }
+    ensures terms { IfOk result (λ t. shown t.items ≡ all_preorder (tree subject.now ∷ constants.now)) }
     ensures nodes { IfOk result
-        (λ p. p.nodes.items ≡ map node_count (all_preorder (tree subject.now ∷ constants.now))) }
+        (λ t. counts t.items ≡ map node_count (all_preorder (tree subject.now ∷ constants.now))) }
+    ensures unranked { IfOk result (λ t. AreUnranked t.items) }
 {
-    let mut found = Preorder {
-        terms: Vec::with_capacity(alloc, FEW)?,
-        nodes: Vec::with_capacity(alloc, FEW)?,
-    };
+    let mut found = Vec::with_capacity(alloc, FEW)?;
     push_subterms(&mut found, subject)?;
     for constant in constants.as_slice() {
         push_subterms(&mut found, constant)?;

@@ -72,10 +72,10 @@ impl Table {
     {
         // The table is the same over each signature.
         let _ = sig;
-        let text = collect(alloc, subject, constants)?;
-        let ranked = distinct_pieces(alloc, &text.terms)?;
-        let root = Rank(ranked.ranks[0]);
-        let made = entries_of(alloc, &text, &ranked)?;
+        let mut text = collect(alloc, subject, constants)?;
+        let pieces = distinct_pieces(alloc, &mut text)?;
+        let root = Rank(text[0].rank);
+        let made = entries_of(alloc, &text, &pieces)?;
         Ok(Table {
             entries: made.entries,
             args: made.args,

@@ -1,10 +1,9 @@
-use Rattle.std.proofs.Common.{◌≡◌, ◌∙◌, ◌<◌, ◌++◌, List, ◌∷◌, [], length, take, get_or, ap, sym, subst, arith}
-use Rattle.std.specs.List.{AllByRecursion}
+use Rattle.std.proofs.Common.{◌≡◌, ◌∙◌, ◌<◌, ◌++◌, ◌∷◌, [], length, take, get_or, ap, sym, subst, arith}
 use Rattle.std.proofs.lemmas.List.{take_all, take_more, length-map}
 use Rattle.mp_term.specs.Tree.{symbol}
 use Rattle.mp_term.specs.View.{tree}
 use Rattle.mp_table.specs.declared.piece.Piece.{Piece}
-use Rattle.mp_table.specs.Pieces.{piece_terms, IsPiece}
+use Rattle.mp_table.specs.Pieces.{piece_terms}
 use Rattle.mp_table.specs.Reading.{AreEntriesOf, IsEntryOf}
 use Rattle.mp_table.specs.Text.{shown}
 use Rattle.mp_table.proofs.PieceLaws.{piece_at}
@@ -14,16 +13,12 @@ use Rattle.mp_table.proofs.entries.entries_of.Goals as goal
 pub loop-piece-preserved : goal.loop-piece-preserved
 loop-piece-preserved c =
     let os = shown c.args.text.now in
-    let ps = c.args.ranked.now.pieces.items in
-    let qs = c.deref-piece-items.result.now in
-    let same = c.deref-piece-items.ensures.value in
+    let ps = c.args.pieces.now in
     let ts = piece_terms ps in
     let n = c.loop-piece.piece-index in
-    let there : n < length ps = subst (λ (l : List Piece). n < length l) same c.loop-piece-test.true in
+    let there : n < length ps = c.loop-piece-test.true in
     let long : length ts ≡ length ps = length-map ps (λ p. tree p.term.now) in
-    let is = ap (λ (l : List Piece). get_or (piece_terms l) n (symbol [])) (sym same)
-    ∙ piece_at os qs (subst (AllByRecursion (IsPiece os)) (sym same) c.requires.pieces.pieces) n
-    c.piece-item.result c.loop-piece-test.true
+    let is = piece_at os ps c.requires.pieces.pieces n c.piece-item.result there
     ∙ ap (λ (p : Piece). get_or os p.start (symbol [])) (sym c.piece-item.is) in
     let new = c.entry_of.new.args.items in
     rw c.in_ok-push.ensures.items (subst (AreEntriesOf new ts (c.loop-piece.entries.items ++ _ ∷ []))
@@ -31,16 +26,16 @@ loop-piece-preserved c =
     (entries_push new ts c.loop-piece.entries.items (take n ts) _ (get_or ts n (symbol []))
     (entries_kept c.loop-piece.args.items new ts c.loop-piece.entries.items (take n ts) c.in_ok-entry_of.ensures.kept
     c.loop-piece.invariant)
-    (subst (λ u. IsEntryOf new ts u c.in_ok-entry_of.field-0) (sym is) c.in_ok-entry_of.ensures.entry)))
+    (subst (λ u. IsEntryOf new ts u c.in_ok-entry_of.field-0) (sym is)
+    (c.in_ok-entry_of.ensures.entry ts c.requires.ranks))))
 
 pub returns : goal.returns
 returns c =
-    let ps = c.args.ranked.now.pieces.items in
+    let ps = c.args.pieces.now in
     let ts = piece_terms ps in
     subst (AreEntriesOf c.loop-piece.args.items ts c.loop-piece.entries.items)
     (take_all c.loop-piece.piece-index ts (omega (
       arith,
       length-map ps (λ p. tree p.term.now),
-      ap length c.deref-piece-items.ensures.value,
       c.loop-piece-test.false,
     ))) c.loop-piece.invariant

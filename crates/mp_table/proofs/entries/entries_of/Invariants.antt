@@ -5,5 +5,5 @@ use Rattle.mp_table.proofs.entries.entries_of.Given as goal
 
 abbrev pub invariant-loop-piece : goal.invariant-loop-piece
 invariant-loop-piece l =
-    AreEntriesOf l.args.items (piece_terms l.ranked.pieces.items) l.entries.items
-    (take l.piece-index (piece_terms l.ranked.pieces.items))
+    AreEntriesOf l.args.items (piece_terms l.pieces) l.entries.items
+    (take l.piece-index (piece_terms l.pieces))

@@ -1,10 +1,10 @@
-use Rattle.std.proofs.Common.{◌≡◌, ◌+◌, ◌-◌, ◌<◌, ◌≤◌, [], map, length, take, drop, get_or}
+use Rattle.std.proofs.Common.{◌≡◌, ◌+◌, ◌-◌, ◌<◌, ◌≤◌, List, [], map, length, take, drop, get_or}
 use Rattle.std.specs.List.{AllByRecursion}
-use Rattle.mp_term.specs.Tree.{symbol}
+use Rattle.mp_term.specs.Tree.{Tree, symbol}
 use Rattle.mp_term.specs.Size.{all_nodes}
 use Rattle.mp_table.specs.Subterms.{arguments}
-use Rattle.mp_table.specs.Pieces.{piece_terms}
-use Rattle.mp_table.specs.Text.{shown}
+use Rattle.mp_table.specs.Pieces.{AreRanks}
+use Rattle.mp_table.specs.Text.{shown, ranks}
 use Rattle.mp_table.proofs.entries.push_ranks.Given as goal
 
 abbrev pub invariant-loop-next : goal.invariant-loop-next
@@ -15,11 +15,12 @@ invariant-loop-next l = record {
       ≤ length (arguments (get_or (shown l.text) l.start (symbol [])));
   next : l.next ≡ l.start + 1 + all_nodes (take (length (drop (length l.fn.args.items) l.args.items))
       (arguments (get_or (shown l.text) l.start (symbol []))));
-  terms : map (λ r. get_or (piece_terms l.ranked.pieces.items) r.0 (symbol []))
-      (drop (length l.fn.args.items) l.args.items)
+  terms : (us : List Tree) → AreRanks (shown l.text) us (ranks l.text)
+      → map (λ r. get_or us r.0 (symbol [])) (drop (length l.fn.args.items) l.args.items)
       ≡ take (length (drop (length l.fn.args.items) l.args.items))
       (arguments (get_or (shown l.text) l.start (symbol [])));
-  within : AllByRecursion (λ r. r.0 < length l.ranked.pieces.items) (drop (length l.fn.args.items) l.args.items);
+  within : (us : List Tree) → AreRanks (shown l.text) us (ranks l.text)
+      → AllByRecursion (λ r. r.0 < length us) (drop (length l.fn.args.items) l.args.items);
 }
 
 abbrev pub decreases-loop-next : goal.decreases-loop-next

@@ -1,4 +1,4 @@
-use Rattle.std.proofs.Common.{◌∙◌, [], sym, ap, subst}
+use Rattle.std.proofs.Common.{◌∙◌, [], get_or, sym, ap, subst}
 use Rattle.std.proofs.lemmas.List.{get_or-map}
 use Rattle.mp_term.specs.Listing.{In}
 use Rattle.mp_term.specs.Tree.{symbol}
@@ -12,7 +12,8 @@ use Rattle.mp_table.proofs.pieces.add_piece.Goals as goal
 pub returns-in_ok-insert-clause-kept : goal.returns-in_ok-insert-clause-kept
 returns-in_ok-insert-clause-kept c = λ u h.
     let ps = c.args.pieces.now.items in
-    let added : Piece = record { term = c.index-terms-start.result; start = c.args.start } in
+    let node = get_or c.args.nodes.now c.args.start c.index-nodes-start.result in
+    let added : Piece = record { term = node.term; start = c.args.start } in
     subst (In u) (sym (ap piece_terms c.in_ok-insert.ensures.items
     ∙ map-insert (λ p. tree p.term.now) c.in-Some.place ps added))
     (in-insert u _ (piece_terms ps) c.in-Some.place h)
@@ -20,12 +21,11 @@ returns-in_ok-insert-clause-kept c = λ u h.
 pub returns-in_ok-insert-clause-there : goal.returns-in_ok-insert-clause-there
 returns-in_ok-insert-clause-there c =
     let ps = c.args.pieces.now.items in
-    let terms = c.args.terms.now in
-    let term = c.index-terms-start.result in
-    let added : Piece = record { term = term; start = c.args.start } in
+    let nodes = c.args.nodes.now in
+    let node = get_or nodes c.args.start c.index-nodes-start.result in
+    let added : Piece = record { term = node.term; start = c.args.start } in
     subst (λ u. In u (piece_terms c.insert.new.self.items))
-    (ap (λ t. tree t.now) c.index-terms-start.is
-    ∙ sym (get_or-map (λ t. tree t.now) terms c.args.start term (symbol []) c.requires.start))
-    (subst (In (tree term.now)) (sym (ap piece_terms c.in_ok-insert.ensures.items
+    (sym (get_or-map (λ n. tree n.term.now) nodes c.args.start c.index-nodes-start.result (symbol []) c.requires.start))
+    (subst (In (tree node.term.now)) (sym (ap piece_terms c.in_ok-insert.ensures.items
     ∙ map-insert (λ p. tree p.term.now) c.in-Some.place ps added))
-    (in-inserted (tree term.now) (piece_terms ps) c.in-Some.place))
+    (in-inserted (tree node.term.now) (piece_terms ps) c.in-Some.place))

@@ -10,9 +10,9 @@ use Rattle.mp_table.proofs.pieces.add_pieces.Goals as goal
 
 pub loop-start-preserved : goal.loop-start-preserved
 loop-start-preserved c =
-    let terms = c.args.terms.now in
+    let nodes = c.args.nodes.now in
     let start = c.loop-start.start in
-    let term = c.index-terms-start.result in
+    let node = c.index-nodes-start.result in
     let us = piece_terms c.loop-start.pieces.items in
     let vs = piece_terms c.add_piece.new.pieces.items in
     let added = c.in_ok-add_piece.ensures in
@@ -20,12 +20,12 @@ loop-start-preserved c =
       ascending = added.ascending;
       pieces = added.pieces;
       kept = λ u h. added.kept u (c.loop-start.invariant.kept u h);
-      all = all-more (λ t. is_symbol (tree t.now) ≡ c.args.symbols → In (tree t.now) vs) terms start term
+      all = all-more (λ n. is_symbol (tree n.term.now) ≡ c.args.symbols → In (tree n.term.now) vs) nodes start node
           c.loop-start-test.true
           (λ e.
-          subst (λ u. In u vs) (get_or-map (λ t. tree t.now) terms start term (symbol []) c.loop-start-test.true)
+          subst (λ u. In u vs) (get_or-map (λ n. tree n.term.now) nodes start node (symbol []) c.loop-start-test.true)
           added.there)
-          (all-also (λ t. is_symbol (tree t.now) ≡ c.args.symbols → In (tree t.now) us)
-          (λ t. is_symbol (tree t.now) ≡ c.args.symbols → In (tree t.now) vs) (λ t h e. added.kept _ (h e))
-          (take start terms) c.loop-start.invariant.all);
+          (all-also (λ n. is_symbol (tree n.term.now) ≡ c.args.symbols → In (tree n.term.now) us)
+          (λ n. is_symbol (tree n.term.now) ≡ c.args.symbols → In (tree n.term.now) vs) (λ n h e. added.kept _ (h e))
+          (take start nodes) c.loop-start.invariant.all);
     }

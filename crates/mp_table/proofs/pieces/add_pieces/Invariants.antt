@@ -1,4 +1,4 @@
-use Rattle.std.proofs.Common.{◌≡◌, map, take}
+use Rattle.std.proofs.Common.{◌≡◌, take}
 use Rattle.std.specs.List.{AllByRecursion}
 use Rattle.std.specs.List.Sorted.{IsStrictlySortedBy}
 use Rattle.mp_term.specs.Listing.{In}
@@ -6,13 +6,15 @@ use Rattle.mp_term.specs.Order.{tree_cmp}
 use Rattle.mp_term.specs.Tree.{Tree}
 use Rattle.mp_term.specs.View.{tree}
 use Rattle.mp_table.specs.Pieces.{is_symbol, piece_terms, IsPiece}
+use Rattle.mp_table.specs.Text.{shown}
 use Rattle.mp_table.proofs.pieces.add_pieces.Given as goal
 
 abbrev pub invariant-loop-start : goal.invariant-loop-start
 invariant-loop-start l = record {
   ascending : IsStrictlySortedBy tree_cmp (piece_terms l.pieces.items);
-  pieces : AllByRecursion (IsPiece (map (λ t. tree t.now) l.terms)) l.pieces.items;
+  pieces : AllByRecursion (IsPiece (shown l.nodes)) l.pieces.items;
   kept : (u : Tree) → In u (piece_terms l.fn.pieces.items) → In u (piece_terms l.pieces.items);
-  all : AllByRecursion (λ t. is_symbol (tree t.now) ≡ l.symbols → In (tree t.now) (piece_terms l.pieces.items))
-      (take l.start l.terms);
+  all : AllByRecursion
+      (λ n. is_symbol (tree n.term.now) ≡ l.symbols → In (tree n.term.now) (piece_terms l.pieces.items))
+      (take l.start l.nodes);
 }

@@ -13,7 +13,7 @@ add_pieces-requires-clause-ascending c = none_ascend tree_cmp _ (ap piece_terms 
 
 pub returns : goal.returns
 returns c =
-    let terms = c.args.terms.now in
+    let nodes = c.args.nodes.now in
     let us = piece_terms c.add_pieces.new.pieces.items in
     let vs = piece_terms c.add_pieces-2.new.pieces.items in
     let symbols = c.in_ok-add_pieces.ensures in
@@ -21,8 +21,9 @@ returns c =
     record {
       ascending = all.ascending;
       pieces = all.pieces;
-      all = from-keys (λ t. tree t.now) vs terms (all-both (λ t. is_symbol (tree t.now)) (λ t. In (tree t.now) vs) terms
-          (all-also (λ t. is_symbol (tree t.now) ≡ true → In (tree t.now) us)
-          (λ t. is_symbol (tree t.now) ≡ true → In (tree t.now) vs) (λ t h e. all.kept _ (h e)) terms symbols.all)
-          all.all);
+      all = from-keys (λ n. tree n.term.now) vs nodes (all-both (λ n. is_symbol (tree n.term.now))
+          (λ n. In (tree n.term.now) vs) nodes
+          (all-also (λ n. is_symbol (tree n.term.now) ≡ true → In (tree n.term.now) us)
+          (λ n. is_symbol (tree n.term.now) ≡ true → In (tree n.term.now) vs) (λ n h e. all.kept _ (h e)) nodes
+          symbols.all) all.all);
     }

@@ -1,7 +1,9 @@
 use Rattle.std.proofs.Common.{◌≡◌, ◌∙◌, ℕ, ◌+◌, ◌-◌, ◌^◌, ◌<◌, ◌≤◌, List, ◌++◌, ◌∷◌, [], map, length, sym, ap, refl}
-use Rattle.std.proofs.Common.{drop, get_or, arith, append_assoc}
+use Rattle.std.proofs.Common.{drop, get_or, arith, append_assoc, subst}
 use Rattle.std.proofs.Common.{length-append, set}
-use Rattle.std.proofs.lemmas.List.{map_push, set_at, length-map}
+use Rattle.std.proofs.lemmas.List.{map_push, map-set, set_at, length-map}
+use Rattle.std.proofs.lemmas.List.Elements.{All-push, All-set}
+use Rattle.std.specs.List.{All}
 use Rattle.mp_term.specs.Tree.{Tree}
 use Rattle.mp_term.specs.TreeLists.{tree_list-trees}
 use Rattle.mp_term.specs.declared.term.OpId.{OpId}
@@ -12,20 +14,23 @@ use Rattle.mp_term.specs.View.{tree}
 use Rattle.mp_term.specs.Size.{node_count, all_nodes}
 use Rattle.mp_table.specs.Preorder.{preorder, all_preorder}
 use Rattle.mp_table.specs.Subterms.{arguments}
+use Rattle.mp_table.specs.Text.{shown, counts, ranks}
+use Rattle.mp_table.specs.declared.node.Node.{Node}
 use Rattle.mp_table.proofs.PreorderLaws.{preorder_is, node_count_is, length-all_preorder, at_end, next_within}
 use Rattle.mp_table.proofs.preorder.+push_subterms.Goals as goal
 
 pub push_subterms-push_arguments-requires : goal.push_subterms-push_arguments-requires
 push_subterms-push_arguments-requires t c =
+    let old = c.args.found.now.items in
+    let first : Node = record { term = c.args.term; nodes = 1; rank = 4294967295 } in
     let own = node_count_is (tree c.args.term.now) in
-    let long = ap length c.in_ok-push-2.ensures.items in (
+    let long = ap length c.in_ok-push.ensures.items in (
       omega (arith, c.decreases),
-      omega (
-        arith,
-        own,
-        long,
-        length-append c.args.found.now.nodes.items (1 ∷ []),
-        c.requires,
+      (
+        omega (arith, own, long, length-append old (first ∷ []), c.requires.short),
+        subst (All (λ r. 2 ^ 32 ≤ r + 1))
+            (sym (ap ranks c.in_ok-push.ensures.items ∙ map_push (λ n. n.rank) old first))
+            (All-push (λ r. 2 ^ 32 ≤ r + 1) (ranks old) 4294967295 c.requires.unranked (omega arith)),
       ),
     )
 
@@ -57,35 +62,60 @@ counted old ms new t start count e h s l =
     ∙ ap (λ n. old ++ n ∷ rest) own
     ∙ ap (λ ts. old ++ map node_count ts) (sym (preorder_is t))
 
+-- what the list of subterms becomes
+grown : (old ms new : List Tree) (t : Tree) (start : ℕ) → ms ≡ old ++ t ∷ []
+    → new ≡ ms ++ all_preorder (arguments t) → start ≡ length old → set new start t ≡ old ++ preorder t
+grown old ms new t start e h s =
+    let rest = all_preorder (arguments t) in
+    ap (λ ts. set ts start t) (h ∙ ap (λ ts. ts ++ rest) e ∙ append_assoc old (t ∷ []) rest)
+    ∙ set_at old t rest t start (sym s)
+    ∙ ap (λ ts. old ++ ts) (sym (preorder_is t))
+
 pub push_subterms-returns-clause-terms : goal.push_subterms-returns-clause-terms
 push_subterms-returns-clause-terms t c =
-    let rest = all_preorder (arguments (tree c.args.term.now)) in
+    let old = c.args.found.now.items in
+    let own = tree c.args.term.now in
+    let first : Node = record { term = c.args.term; nodes = 1; rank = 4294967295 } in
+    let new = c.push_arguments.new.found.items in
+    let start = c.len-start.result in
+    map-set (λ n. tree n.term.now) new start (record { term = c.args.term; nodes = _; rank = 4294967295 })
+    ∙ grown (shown old) (shown c.push.new.self.items) (shown new) own start
+    (ap shown c.in_ok-push.ensures.items ∙ map_push (λ n. tree n.term.now) old first)
     c.in_ok-push_arguments.ensures.terms
-    ∙ ap (λ l. map (λ t. tree t.now) l ++ rest) c.in_ok-push.ensures.items
-    ∙ ap (λ l. l ++ rest) (map_push (λ t. tree t.now) c.args.found.now.terms.items c.args.term)
-    ∙ append_assoc (map (λ t. tree t.now) c.args.found.now.terms.items) (tree c.args.term.now ∷ []) rest
-    ∙ ap (λ l. map (λ t. tree t.now) c.args.found.now.terms.items ++ l) (sym (preorder_is (tree c.args.term.now)))
+    (c.len-start.ensures ∙ c.args.found.now.ok.0 ∙ sym (length-map old (λ n. tree n.term.now)))
 
-pub push_subterms-overflow_cast-len : goal.push_subterms-overflow_cast-len
-push_subterms-overflow_cast-len t c =
-    let long = many c.args.found.now.nodes.items c.push-2.new.self.items c.push_arguments.new.found.nodes.items
-    (tree c.args.term.now) c.in_ok-push-2.ensures.items c.in_ok-push_arguments.ensures.nodes in
+pub push_subterms-overflow_cast-nodes : goal.push_subterms-overflow_cast-nodes
+push_subterms-overflow_cast-nodes t c =
+    let old = c.args.found.now.items in
+    let first : Node = record { term = c.args.term; nodes = 1; rank = 4294967295 } in
+    let new = c.push_arguments.new.found.items in
+    let long = many (counts old) (counts c.push.new.self.items) (counts new) (tree c.args.term.now)
+    (ap counts c.in_ok-push.ensures.items ∙ map_push (λ n. n.nodes) old first)
+    c.in_ok-push_arguments.ensures.nodes in
     omega (
       arith,
       long,
-      c.requires,
+      length-map old (λ n. n.nodes),
+      length-map new (λ n. n.nodes),
+      c.requires.short,
       c.len.ensures,
       c.len-start.ensures,
-      c.push_arguments.new.found.nodes.ok.0,
-      c.args.found.now.nodes.ok.0,
+      c.push_arguments.new.found.ok.0,
+      c.args.found.now.ok.0,
     )
 
 pub push_subterms-returns-clause-nodes : goal.push_subterms-returns-clause-nodes
 push_subterms-returns-clause-nodes t c =
-    counted c.args.found.now.nodes.items c.push-2.new.self.items c.push_arguments.new.found.nodes.items
-    (tree c.args.term.now) c.len-start.result c.len.result c.in_ok-push-2.ensures.items
-    c.in_ok-push_arguments.ensures.nodes (c.len-start.ensures ∙ c.args.found.now.nodes.ok.0)
-    (c.len.ensures ∙ c.push_arguments.new.found.nodes.ok.0)
+    let old = c.args.found.now.items in
+    let first : Node = record { term = c.args.term; nodes = 1; rank = 4294967295 } in
+    let new = c.push_arguments.new.found.items in
+    let start = c.len-start.result in
+    map-set (λ n. n.nodes) new start (record { term = c.args.term; nodes = c.len.result - start; rank = 4294967295 })
+    ∙ counted (counts old) (counts c.push.new.self.items) (counts new) (tree c.args.term.now) start c.len.result
+    (ap counts c.in_ok-push.ensures.items ∙ map_push (λ n. n.nodes) old first)
+    c.in_ok-push_arguments.ensures.nodes
+    (c.len-start.ensures ∙ c.args.found.now.ok.0 ∙ sym (length-map old (λ n. n.nodes)))
+    (c.len.ensures ∙ c.push_arguments.new.found.ok.0 ∙ sym (length-map new (λ n. n.nodes)))
 
 -- the room that is left for the next argument
 room : (found old : List ℕ) (items : List Term) (n : ℕ) (d : Term) → n < length items
@@ -118,30 +148,52 @@ push_arguments-push_subterms-requires t c =
     rw c.in-App.is (ap (λ l. all_nodes l + 1) (sym c.as_slice-arg-items.ensures)) in
     let below : node_count (tree x) ≤ all_nodes (map tree items) =
     rw is (node_count-element tree items n x c.loop-arg-test.true) in
-    let few : length c.args.found.now.nodes.items + all_nodes (map tree items) < 2 ^ 32 =
-    omega (arith, own, node_count_is (tree c.args.term.now), c.requires) in (
+    let few : length (counts c.args.found.now.items) + all_nodes (map tree items) < 2 ^ 32 =
+    omega (
+      arith,
+      own,
+      node_count_is (tree c.args.term.now),
+      length-map c.args.found.now.items (λ n. n.nodes),
+      c.requires.short,
+    ) in (
       omega (arith, own, below, c.decreases),
-      rw is (room c.loop-arg.found.nodes.items c.args.found.now.nodes.items items n x c.loop-arg-test.true few
-          c.loop-arg.invariant.nodes),
+      (
+        rw is (omega (
+          arith,
+          room (counts c.loop-arg.found.items) (counts c.args.found.now.items) items n x c.loop-arg-test.true few
+              c.loop-arg.invariant.nodes,
+          length-map c.loop-arg.found.items (λ n. n.nodes),
+        )),
+        c.loop-arg.invariant.unranked,
+      ),
     )
 
 -- the arguments as the slice shows them
-shown : (items : List Term) (t : Term) (f : OpId) (args : List Tree) → t ≡ App f args → map tree items ≡ args
+shown_args : (items : List Term) (t : Term) (f : OpId) (args : List Tree) → t ≡ App f args → map tree items ≡ args
     → map tree items ≡ arguments (tree t)
-shown items t f args e h = rw (e, tree_list-trees args) h
+shown_args items t f args e h = rw (e, tree_list-trees args) h
 
 pub push_arguments-returns-after-loop-arg-clause-terms : goal.push_arguments-returns-after-loop-arg-clause-terms
 push_arguments-returns-after-loop-arg-clause-terms t c =
     let items = c.as_slice-arg-items.result.now in
     at_end (λ l. all_preorder (map tree l)) refl _ _ items c.loop-arg.arg-index c.loop-arg-test.false
     c.loop-arg.invariant.terms
-    ∙ ap (λ l. map (λ t. tree t.now) c.args.found.now.terms.items ++ all_preorder l)
-    (shown items c.args.term.now c.in-App.field-0 c.in-App.args c.in-App.is c.as_slice-arg-items.ensures)
+    ∙ ap (λ l. shown c.args.found.now.items ++ all_preorder l)
+    (shown_args items c.args.term.now c.in-App.field-0 c.in-App.args c.in-App.is c.as_slice-arg-items.ensures)
 
 pub push_arguments-returns-after-loop-arg-clause-nodes : goal.push_arguments-returns-after-loop-arg-clause-nodes
 push_arguments-returns-after-loop-arg-clause-nodes t c =
     let items = c.as_slice-arg-items.result.now in
     at_end (λ l. map node_count (all_preorder (map tree l))) refl _ _ items c.loop-arg.arg-index c.loop-arg-test.false
     c.loop-arg.invariant.nodes
-    ∙ ap (λ l. c.args.found.now.nodes.items ++ map node_count (all_preorder l))
-    (shown items c.args.term.now c.in-App.field-0 c.in-App.args c.in-App.is c.as_slice-arg-items.ensures)
+    ∙ ap (λ l. counts c.args.found.now.items ++ map node_count (all_preorder l))
+    (shown_args items c.args.term.now c.in-App.field-0 c.in-App.args c.in-App.is c.as_slice-arg-items.ensures)
+
+pub push_subterms-returns-clause-unranked : goal.push_subterms-returns-clause-unranked
+push_subterms-returns-clause-unranked t c =
+    let new = c.push_arguments.new.found.items in
+    let start = c.len-start.result in
+    subst (All (λ r. 2 ^ 32 ≤ r + 1))
+    (sym (map-set (λ n. n.rank) new start
+    (record { term = c.args.term; nodes = c.len.result - start; rank = 4294967295 })))
+    (All-set (λ r. 2 ^ 32 ≤ r + 1) (ranks new) start 4294967295 (omega arith) c.in_ok-push_arguments.ensures.unranked)

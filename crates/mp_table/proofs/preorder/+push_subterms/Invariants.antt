@@ -2,6 +2,7 @@ use Rattle.std.proofs.Common.{◌≡◌, ◌+◌, ◌*◌, ◌++◌, map, drop}
 use Rattle.mp_term.specs.View.{tree}
 use Rattle.mp_term.specs.Size.{node_count}
 use Rattle.mp_table.specs.Preorder.{all_preorder}
+use Rattle.mp_table.specs.Text.{shown, counts, AreUnranked}
 use Rattle.mp_table.proofs.preorder.+push_subterms.Given as goal
 
 abbrev pub decreases-push_subterms : goal.decreases-push_subterms
@@ -12,8 +13,9 @@ decreases-push_arguments l = 2 * node_count (tree l.term.now)
 
 abbrev pub invariant-push_arguments-loop-arg : goal.invariant-push_arguments-loop-arg
 invariant-push_arguments-loop-arg l = record {
-  terms : map (λ t. tree t.now) l.found.terms.items ++ all_preorder (map tree (drop l.arg-index l.arg-items))
-      ≡ map (λ t. tree t.now) l.fn.found.terms.items ++ all_preorder (map tree l.arg-items);
-  nodes : l.found.nodes.items ++ map node_count (all_preorder (map tree (drop l.arg-index l.arg-items)))
-      ≡ l.fn.found.nodes.items ++ map node_count (all_preorder (map tree l.arg-items));
+  terms : shown l.found.items ++ all_preorder (map tree (drop l.arg-index l.arg-items))
+      ≡ shown l.fn.found.items ++ all_preorder (map tree l.arg-items);
+  nodes : counts l.found.items ++ map node_count (all_preorder (map tree (drop l.arg-index l.arg-items)))
+      ≡ counts l.fn.found.items ++ map node_count (all_preorder (map tree l.arg-items));
+  unranked : AreUnranked l.found.items;
 }

@@ -3,11 +3,12 @@ use Rattle.std.proofs.lemmas.List.{length-map}
 use Rattle.mp_term.specs.View.{tree}
 use Rattle.mp_term.specs.Size.{node_count, all_nodes}
 use Rattle.mp_table.specs.Preorder.{all_preorder}
+use Rattle.mp_table.specs.Text.{counts}
 use Rattle.mp_table.proofs.PreorderLaws.{length-all_preorder, next_within}
 use Rattle.mp_table.proofs.preorder.collect.Goals as goal
 
-pub push_subterms-requires-in-loop-constant : goal.push_subterms-requires-in-loop-constant
-push_subterms-requires-in-loop-constant c =
+pub push_subterms-requires-in-loop-constant-clause-short : goal.push_subterms-requires-in-loop-constant-clause-short
+push_subterms-requires-in-loop-constant-clause-short c =
     let items = c.as_slice-constant-items.result.now in
     let n = c.loop-constant.constant-index in
     let x = c.constant-item.result in
@@ -19,7 +20,8 @@ push_subterms-requires-in-loop-constant c =
       c.requires,
       ap length c.loop-constant.invariant.nodes,
       ap all_nodes c.loop-constant.invariant.all,
-      length-append c.loop-constant.found.nodes.items (map node_count left),
+      length-append (counts c.loop-constant.found.items) (map node_count left),
+      length-map c.loop-constant.found.items (λ n. n.nodes),
       length-map left node_count,
       length-map whole node_count,
       length-all_preorder (map tree (drop n items)),
