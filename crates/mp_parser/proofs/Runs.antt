@@ -1,6 +1,6 @@
 -- Steps of the machine, and runs over one token.
-use Rattle.std.proofs.Common.{◌≡◌, ℕ, suc, ◌<◌, true, false, cond, List, [], ◌∷◌, ◌++◌, length, Some, None, Result}
-use Rattle.std.proofs.Common.{Ok, Err, refl, ap, sym, subst, ◌∙◌, arith}
+use Rattle.std.proofs.Common.{◌≡◌, ℕ, suc, ◌<◌, ◌≤◌, true, false, cond, List, [], ◌∷◌, ◌++◌, length, Option, Some, None}
+use Rattle.std.proofs.Common.{Result, Ok, Err, refl, ap, sym, subst, ◌∙◌, arith}
 use Rattle.std.specs.Prelude.{◌&&◌, IsErrAnd}
 use Rattle.std.proofs.lemmas.Bool.{lt-leb, and_parts}
 use Rattle.mp_parser.specs.declared.limits.TheConstants.{MAX_OPEN}
@@ -250,6 +250,30 @@ pub word-begins : (done : List Statement) (x : Within) (k : List Frame) (t : Pla
     → run done (BeforeExpr x k) old ≡ run done (AfterWord x k (spot w t.place)) new
 word-begins done x k t w old new e h = ap (run done (BeforeExpr x k)) e
     ∙ (λ i. run done (BeforeExpr x k) (record { token = h i; place = t.place } ∷ behind (h i) new))
+
+-- a wildcard begins an expression
+pub wildcard-begins : (done : List Statement) (x : Within) (k : List Frame) (t : Placed) (name : List ℕ) (marks : ℕ)
+    (kind : List ℕ) (old new : List Placed)
+    → old ≡ t ∷ behind t.token new → t.token ≡ tokens.Wildcard name marks kind
+    → run done (BeforeExpr x k) old
+    ≡ run done (AfterWildcard x k (record { name = name; marks = marks; kind = kind; place = t.place })) new
+wildcard-begins done x k t name marks kind old new e h = ap (run done (BeforeExpr x k)) e
+    ∙ (λ i. run done (BeforeExpr x k) (record { token = h i; place = t.place } ∷ behind (h i) new))
+
+-- how far an expression that begins with this wildcard, or with none, is above what stands in it
+abbrev pub levels : Option Wildcard → ℕ
+levels (Some w) = 4
+levels None = 2
+
+-- it is 2 or more
+pub levels-least : (o : Option Wildcard) → 2 ≤ levels o
+levels-least (Some w) = omega arith
+levels-least None = omega arith
+
+-- it is at most 4
+pub levels-bound : (o : Option Wildcard) → levels o ≤ 4
+levels-bound (Some w) = omega arith
+levels-bound None = omega arith
 
 -- the `$` begins a variable
 pub dollar-begins : (done : List Statement) (x : Within) (k : List Frame) (t : Placed) (old new : List Placed)

@@ -21,15 +21,45 @@ use std::alloc::Global;
 
 impl<'a> Parser<'a> {
     /// Reads an expression, in which at most `room` brackets stand open at once.
-    #[cycle(expression)]
     pub fn expr(&mut self, arena: &mut Arena<'a>, room: usize) -> Result<Expr<'a>, SyntaxError>
         ensures read { ExprGives room result (ahead self.old) (ahead self.new) }
         ensures shorter { OnOk result (length (ahead self.new) < length (ahead self.old)) }
         ensures kept { OnOk result (arena.new.pending.items ≡ arena.old.pending.items) }
     {
-        match self.wildcard() {
-            Some(wildcard) => self.behind_wildcard(arena, wildcard, room),
-            None => self.word_or_bracket(arena, room),
+        self.expression(arena, room)
+    }
+
+    // Reads an expression by the token that it begins with: only one that begins with a wildcard has a default.
+    #[cycle(expression)]
+    fn expression(&mut self, arena: &mut Arena<'a>, room: usize) -> Result<Expr<'a>, SyntaxError>
+        ensures read { ExprGives room result (ahead self.old) (ahead self.new) }
+        ensures plain { wildcard_at (token_of self.old.token.kind) self.old.token.place ≡ None
+            → IfOk result (λ e. HasNoDefault (expr_tree e)) }
+        ensures shorter { OnOk result (length (ahead self.new) < length (ahead self.old)) }
+        ensures kept { OnOk result (arena.new.pending.items ≡ arena.old.pending.items) }
+    {
+        let place = self.token.place;
+        match self.token.kind {
+            Kind::Word(text) => {
+                self.advance();
+                self.behind_word(arena, Word { text, place }, room)
+            }
+            Kind::Wildcard { name, marks, kind } => {
+                self.advance();
+                let wildcard = Wildcard {
+                    name,
+                    marks,
+                    kind,
+                    place,
+                };
+                self.behind_wildcard(arena, wildcard, room)
+            }
+            Kind::Punct(Punct::Open) => self.infix(arena, room),
+            Kind::Punct(Punct::Dollar) => {
+                self.advance();
+                self.behind_dollar(place)
+            }
+            _ => Err(self.refused()),
         }
     }
 
@@ -53,7 +83,7 @@ impl<'a> Parser<'a> {
         let (others, last) = self.chain(arena.alloc, arena.bump)?;
         let default = match last {
             Some(wildcard) => self.counted(arena.bump, wildcard)?,
-            None => self.word_or_bracket(arena, room)?,
+            None => self.expression(arena, room)?,
         };
         Ok(Expr::Optional {
             wildcard: arena.bump.try_alloc(wildcard)?,
@@ -111,36 +141,6 @@ impl<'a> Parser<'a> {
         Ok((others, last))
     }
 
-    // Reads an expression that begins with a word or a bracket, where no wildcard is held.
-    #[cycle(expression)]
-    fn word_or_bracket(
-        &mut self,
-        arena: &mut Arena<'a>,
-        room: usize,
-    ) -> Result<Expr<'a>, SyntaxError>
-        requires { wildcard_at (token_of self.old.token.kind) self.old.token.place ≡ None }
-        ensures read { ExprGives room result (ahead self.old) (ahead self.new) }
-        ensures plain { IfOk result (λ e. HasNoDefault (expr_tree e)) }
-        ensures shorter { OnOk result (length (ahead self.new) < length (ahead self.old)) }
-        ensures kept { OnOk result (arena.new.pending.items ≡ arena.old.pending.items) }
-    {
-        if self.sees(Punct::Open) {
-            return self.infix(arena, room);
-        }
-        let place = self.token.place;
-        match self.token.kind {
-            Kind::Word(text) => {
-                self.advance();
-                self.behind_word(arena, Word { text, place }, room)
-            }
-            Kind::Punct(Punct::Dollar) => {
-                self.advance();
-                self.behind_dollar(place)
-            }
-            _ => Err(self.refused()),
-        }
-    }
-
     // Reads what begins with this word: an application, or a symbol.
     #[cycle(expression)]
     fn behind_word(
@@ -193,11 +193,11 @@ impl<'a> Parser<'a> {
         ensures kept { OnOk result (arena.new.pending.items ≡ arena.old.pending.items) }
     {
         let start = arena.start();
-        let first = self.expr(arena, room)?;
+        let first = self.expression(arena, room)?;
         arena.push(first)?;
         while self.sees(Punct::Comma) {
             self.advance();
-            let expr = self.expr(arena, room)?;
+            let expr = self.expression(arena, room)?;
             arena.push(expr)?;
         }
         self.expect(closes)?;
@@ -219,7 +219,7 @@ impl<'a> Parser<'a> {
         }
         let open = self.token.place;
         self.advance();
-        let first = self.expr(arena, room - 1)?;
+        let first = self.expression(arena, room - 1)?;
         let sign = self.sign()?;
         let operands = self.operands(arena, first, sign, room - 1)?;
         Ok(Expr::Infix {
@@ -246,7 +246,7 @@ impl<'a> Parser<'a> {
         let start = arena.start();
         arena.push(first)?;
         loop {
-            let expr = self.expr(arena, room)?;
+            let expr = self.expression(arena, room)?;
             arena.push(expr)?;
             if !self.sees_sign(sign.text) {
                 break;

@@ -49,65 +49,79 @@ impl<'a> Lexer<'a> {
         }
     }
 
-    /// The next token, behind blanks and comments. At the end it is `End`, again and again.
+    /// Puts the next token in place of the one that is held, behind blanks and comments. At the end it is `End`, again
+    /// and again.
     ///
     /// What it is, where it stands and what is left is `token_at` of `specs/Lexing.antt`.
-    pub fn next_token(&mut self) -> Token<'a>
-        ensures { token_at self.old.rest.now self.old.place ≡ (placed result, (self.new.rest.now, self.new.place)) }
+    pub fn next_token(&mut self, token: &mut Token<'a>)
+        ensures { token_at self.old.rest.now self.old.place ≡ (placed token.new, (self.new.rest.now, self.new.place)) }
     {
         self.skip_blanks();
-        let place = self.place;
-        let kind = self.front();
-        Token { kind, place }
+        token.place = self.place;
+        self.front(&mut token.kind);
     }
 
-    // Passes the longest token at the front and gives it.
-    fn front(&mut self) -> Kind<'a>
+    // Passes the longest token at the front and puts it in place of one.
+    fn front(&mut self, kind: &mut Kind<'a>)
         ensures { front_at self.old.rest.now self.old.place
-            ≡ (token_of result, (self.new.rest.now, self.new.place)) }
+            ≡ (token_of kind.new, (self.new.rest.now, self.new.place)) }
     {
         let [first, rest @ ..] = self.rest else {
-            return Kind::End;
+            *kind = Kind::End;
+            return;
         };
         if let Some(punct) = punct(*first) {
             self.rest = rest;
             self.place.column += 1;
-            return Kind::Punct(punct);
+            *kind = Kind::Punct(punct);
+            return;
         }
         let (word, rest) = self.rest.split_at(word_len(self.rest));
         if !word.is_empty() && mark_count(rest) == 0 {
             self.rest = rest;
             self.place.column += word.len() as u32;
-            return settled(Kind::Word(word));
+            *kind = settled(Kind::Word(word));
+            return;
         }
-        self.run()
+        self.run(kind);
     }
 
-    // Passes the longest token at the front and gives it, where no punctuation character stands there.
-    fn run(&mut self) -> Kind<'a>
+    // The same, where no punctuation character stands at the front. Mostly it is a wildcard or a sign.
+    #[inline(never)]
+    fn run(&mut self, kind: &mut Kind<'a>)
         requires { NoPunct self.old.rest.now }
         ensures { front_at self.old.rest.now self.old.place
-            ≡ (token_of result, (self.new.rest.now, self.new.place)) }
+            ≡ (token_of kind.new, (self.new.rest.now, self.new.place)) }
     {
         let (run, len) = longest(self.rest);
-        let kind = settled(run);
+        *kind = settled(run);
         let (_, rest) = self.rest.split_at(len);
         self.rest = rest;
         self.place.column += len as u32;
-        kind
     }
 
-    // Passes the blanks and comments at the front. No blank is above `#`, and most bytes are.
+    // Passes the blanks and comments at the front. No blank is above `#`, and most bytes are; mostly no blank stands
+    // there, or a single space.
     fn skip_blanks(&mut self)
         ensures { (self.new.rest.now, self.new.place) ≡ after_blanks false self.old.rest.now self.old.place }
     {
         match self.rest {
             [first, ..] if *first > b'#' => {}
+            [b' ', rest @ ..] => {
+                self.rest = rest;
+                self.place.column += 1;
+                match rest {
+                    [next, ..] if *next > b'#' => {}
+                    _ => self.pass_blanks(),
+                }
+            }
             _ => self.pass_blanks(),
         }
     }
 
     // Passes the blanks and comments at the front, byte by byte.
+    #[cold]
+    #[inline(never)]
     fn pass_blanks(&mut self)
         ensures { (self.new.rest.now, self.new.place) ≡ after_blanks false self.old.rest.now self.old.place }
     {
@@ -219,9 +233,11 @@ fn mark_count(bytes: &[u8]) -> usize
     ensures within { result ≤ length bytes.now }
 {
     match bytes {
-        [b'_', b'_', b'_', ..] => 3,
-        [b'_', b'_', ..] => 2,
-        [b'_', ..] => 1,
+        [b'_', behind @ ..] => match behind {
+            [b'_', b'_', ..] => 3,
+            [b'_', ..] => 2,
+            _ => 1,
+        },
         _ => 0,
     }
 }

@@ -61,7 +61,7 @@ impl<'a> Parser<'a> {
     fn take(&mut self)
         ensures { ahead self.new ≡ lexemes self.old.lexer.rest.now self.old.lexer.place }
     {
-        self.token = self.lexer.next_token();
+        self.lexer.next_token(&mut self.token);
     }
 
     /// The fault of this kind, at the token that is held.

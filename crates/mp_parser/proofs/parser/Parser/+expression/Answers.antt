@@ -1,9 +1,10 @@
-use Rattle.std.proofs.Common.{◌≡◌, ◌+◌, [], ◌∷◌, ◌++◌, map, refl, sym, ap, subst, ◌∙◌, arith}
+use Rattle.std.specs.Prelude.{IfNone}
+use Rattle.std.proofs.Common.{◌≡◌, ◌+◌, None, [], ◌∷◌, ◌++◌, map, refl, sym, ap, subst, ◌∙◌, arith}
 use Rattle.std.proofs.lemmas.List.{map_push}
 use Rattle.mp_parser.specs.declared.limits.TheConstants.{MAX_OPEN}
 use Rattle.mp_parser.specs.declared.token.Punct.TheVariants.{Open, Close, Comma}
 use Rattle.mp_parser.specs.Machine.{Go, Default, BeforeExpr, AfterExpr, AfterWord, AfterOpen, Arguments, Bracket}
-use Rattle.mp_parser.specs.Machine.{Operands, run}
+use Rattle.mp_parser.specs.Machine.{Operands, run, wildcard_at}
 use Rattle.mp_parser.specs.Tokens.{Punctuation}
 use Rattle.mp_parser.specs.Lexing.{token_of}
 use Rattle.mp_parser.specs.Syntax.{Apply, InfixOf, Optional, trees, HasNoDefault}
@@ -12,33 +13,77 @@ use Rattle.mp_parser.specs.Parsing.{ahead, behind_wildcard, within_defaults}
 use Rattle.mp_parser.proofs.Runs.{length-passed, row-closes, row-again, operand-closes, word-opens, open-closes}
 use Rattle.mp_parser.proofs.Runs.{open-expr, bracket-opens, over-punct, length-passed_sign, over-sign, operand-again}
 use Rattle.mp_parser.proofs.Runs.{over-default, defaults-behind, chained-optional, open_count-within_defaults, breaks}
-use Rattle.mp_parser.proofs.Runs.{passes-along, word-begins, dollar-begins}
+use Rattle.mp_parser.proofs.Runs.{passes-along, word-begins, wildcard-begins, dollar-begins}
+use Rattle.mp_parser.proofs.Runs.{levels, levels-least, levels-bound}
 use Rattle.mp_parser.proofs.ListLaws.{drop-behind, take-before, front-le, push-behind}
 use Rattle.mp_parser.proofs.Trees.{expr_tree-Apply, expr_tree-Infix}
 use Rattle.mp_parser.proofs.parser.Parser.+expression.Goals as goal
 use Rattle.mp_parser.proofs.parser.Parser.+expression.Goals.{behind_wildcard-in-Some+in_ok-default-in-Some}
 use Rattle.mp_parser.proofs.parser.Parser.+expression.Goals.{behind_wildcard-in-None+in_ok-default-in-None}
 
-pub expr-returns-in-Some-clause-read : goal.expr-returns-in-Some-clause-read
-expr-returns-in-Some-clause-read t c = λ done x k len.
-    passes-along _ _ _ c.behind_wildcard.result _ _ _ (c.in-Some.ensures.read done x k)
+pub expression-invariant_of-wildcard : goal.expression-invariant_of-wildcard
+expression-invariant_of-wildcard t c =
+    record { parts = c.args.self.now.token.spelled.wildcard _ (ap token_of c.in-Wildcard.is) }
+
+pub expression-behind_word-requires : goal.expression-behind_word-requires
+expression-behind_word-requires t c =
+    let least = levels-least (wildcard_at (token_of c.args.self.now.token.kind) c.args.self.now.token.place) in
+    omega (arith, least)
+
+pub expression-behind_wildcard-requires : goal.expression-behind_wildcard-requires
+expression-behind_wildcard-requires t c =
+    let held = ap (λ k. levels (wildcard_at (token_of k) c.args.self.now.token.place)) c.in-Wildcard.is in
+    omega (arith, held)
+
+pub row-expression-requires : goal.row-expression-requires
+row-expression-requires t c =
+    let bound = levels-bound (wildcard_at (token_of c.args.self.now.token.kind) c.args.self.now.token.place) in
+    omega (arith, bound)
+
+pub row-expression-requires-in-loop-self : goal.row-expression-requires-in-loop-self
+row-expression-requires-in-loop-self t c =
+    let bound = levels-bound (wildcard_at (token_of c.advance.new.self.token.kind) c.advance.new.self.token.place) in
+    omega (arith, bound)
+
+pub infix-expression-requires : goal.infix-expression-requires
+infix-expression-requires t c =
+    let bound = levels-bound (wildcard_at (token_of c.advance.new.self.token.kind) c.advance.new.self.token.place) in
+    omega (arith, bound)
+
+pub operands-expression-requires : goal.operands-expression-requires
+operands-expression-requires t c =
+    let bound = levels-bound (wildcard_at (token_of c.loop-expr.self.token.kind) c.loop-expr.self.token.place) in
+    omega (arith, bound)
+
+pub behind_wildcard-expression-requires : goal.behind_wildcard-expression-requires
+behind_wildcard-expression-requires t c =
+    let none = subst (λ o. IfNone o (wildcard_at (token_of c.chain.new.self.token.kind)
+    c.chain.new.self.token.place ≡ None)) c.in-None.is c.in_ok-others.ensures.held in
+    let held = ap levels none in
+    omega (arith, held)
+
+pub expression-returns-in-Wildcard-clause-read : goal.expression-returns-in-Wildcard-clause-read
+expression-returns-in-Wildcard-clause-read t c = λ done x k len.
+    passes-along _ _ _ c.behind_wildcard.result _ _ _
+    (wildcard-begins done x k (placed c.args.self.now.token) _ _ _ _ _ c.advance-in-Wildcard.ensures
+    (ap token_of c.in-Wildcard.is))
     (c.behind_wildcard.ensures.read done x k len)
 
-pub word_or_bracket-returns-in-Word-clause-read : goal.word_or_bracket-returns-in-Word-clause-read
-word_or_bracket-returns-in-Word-clause-read t c = λ done x k len.
+pub expression-returns-in-Word-clause-read : goal.expression-returns-in-Word-clause-read
+expression-returns-in-Word-clause-read t c = λ done x k len.
     passes-along _ _ _ c.behind_word.result _ _ _
     (word-begins done x k (placed c.args.self.now.token) _ _ _ c.advance.ensures (ap token_of c.in-Word.is))
     (c.behind_word.ensures.read done x k len)
 
-pub word_or_bracket-returns-in-Punct-Dollar-clause-read : goal.word_or_bracket-returns-in-Punct-Dollar-clause-read
-word_or_bracket-returns-in-Punct-Dollar-clause-read t c = λ done x k len.
+pub expression-returns-in-Punct-Dollar-clause-read : goal.expression-returns-in-Punct-Dollar-clause-read
+expression-returns-in-Punct-Dollar-clause-read t c = λ done x k len.
     passes-along _ _ _ c.behind_dollar.result _ _ _
     (dollar-begins done x k (placed c.args.self.now.token) _ _ c.advance-in-Punct-Dollar.ensures
     (ap token_of c.in-Punct-Dollar.is ∙ ap Punctuation (rw c.in-Punct-Dollar.is at c.in-Punct-Dollar.field-0-is)))
     (c.behind_dollar.ensures.read done x k)
 
-pub word_or_bracket-invariant_of-behind_word : goal.word_or_bracket-invariant_of-behind_word
-word_or_bracket-invariant_of-behind_word t c =
+pub expression-invariant_of-behind_word : goal.expression-invariant_of-behind_word
+expression-invariant_of-behind_word t c =
     record { named = c.args.self.now.token.spelled.word _ (ap token_of c.in-Word.is) }
 
 pub row-returns-in_err-first-clause-read : goal.row-returns-in_err-first-clause-read
@@ -75,7 +120,7 @@ row-loop-self-preserved t c =
           (row-again c.args.closes x k frame to row es e (placed c.loop-self.self.token) held)
           ∙ c.in_ok-expr.ensures.read done x (frame (es ++ e ∷ []) ∷ k) (room (es ++ e ∷ []))
           ∙ ap (λ l. run done (AfterExpr x (frame l ∷ k) (expr_tree c.in_ok-expr.expr))
-          (ahead c.expr-in-loop-self.new.self))
+          (ahead c.expression-in-loop-self.new.self))
           (sym (map_push expr_tree before last));
       shorter = let passed = length-passed Comma (placed c.loop-self.self.token) _ _ c.advance.ensures held in
           omega (arith, passed, c.in_ok-expr.ensures.shorter, c.loop-self.invariant.shorter);
@@ -215,7 +260,7 @@ operands-returns-in_err-expect-clause-read t c = λ done h k place len.
     (c.loop-expr.invariant.read done h k place len
     ∙ c.in_ok-expr.ensures.read done h (Operands place sign first others ∷ k) (omega (arith, len)))
     (c.in_err-expect.ensures.read done (AfterExpr h (Operands place sign first others ∷ k) e) _
-    (operand-closes h place sign first others k e (placed c.expr.new.self.token)
+    (operand-closes h place sign first others k e (placed c.expression.new.self.token)
     (sym c.sees_sign.ensures ∙ c.if-not-sees_sign.true)))
 
 pub operands-returns-clause-read : goal.operands-returns-clause-read
@@ -227,7 +272,7 @@ operands-returns-clause-read t c = λ done h k place len.
     c.loop-expr.invariant.read done h k place len
     ∙ c.in_ok-expr.ensures.read done h (Operands place sign first others ∷ k) (omega (arith, len))
     ∙ c.in_ok-expect.ensures.read done (AfterExpr h (Operands place sign first others ∷ k) e) _
-    (operand-closes h place sign first others k e (placed c.expr.new.self.token)
+    (operand-closes h place sign first others k e (placed c.expression.new.self.token)
     (sym c.sees_sign.ensures ∙ c.if-not-sees_sign.true))
     ∙ ap (λ l. run done (AfterExpr h k (InfixOf place sign (trees l))) (ahead c.expect.new.self))
     (sym (ap (map expr_tree) (c.in_ok-list.ensures.list
@@ -291,7 +336,10 @@ behind_wildcard-returns-clause-read t c = λ done x k len.
       | behind_wildcard-in-Some+in_ok-default-in-Some v ↦
           subst (λ d. HasNoDefault (expr_tree d)) (sym v.default-is) v.in_ok-default-in-Some.ensures.plain
       | behind_wildcard-in-None+in_ok-default-in-None v ↦
-          subst (λ d. HasNoDefault (expr_tree d)) (sym v.default-is) v.in_ok-default-in-None.ensures.plain
+          subst (λ d. HasNoDefault (expr_tree d)) (sym v.default-is)
+          (v.in_ok-default-in-None.ensures.plain
+          (subst (λ o. IfNone o (wildcard_at (token_of c.chain.new.self.token.kind)
+          c.chain.new.self.token.place ≡ None)) v.in-None.is c.in_ok-others.ensures.held))
     ] in
     let last : run done (behind_wildcard x (within_defaults ws k) c.in_ok-others.last) (ahead c.chain.new.self)
     ≡ run done (AfterExpr x (within_defaults ws k) e) (ahead c.match-last.self) = elim c.match-last.branch [
@@ -331,13 +379,13 @@ operands-loop-expr-preserved t c =
       read = λ done x k place len.
           c.loop-expr.invariant.read done x k place len
           ∙ c.in_ok-expr.ensures.read done x (Operands place sign first others ∷ k) (omega (arith, len))
-          ∙ over-sign c.args.sign.text.now (placed c.expr.new.self.token) _ _ c.advance.ensures held done
+          ∙ over-sign c.args.sign.text.now (placed c.expression.new.self.token) _ _ c.advance.ensures held done
           (AfterExpr x (Operands place sign first others ∷ k) e)
           (Go (BeforeExpr x (Operands place sign first (others ++ e ∷ []) ∷ k)))
-          (operand-again MAX_OPEN x place sign first others k e (placed c.expr.new.self.token) held)
+          (operand-again MAX_OPEN x place sign first others k e (placed c.expression.new.self.token) held)
           ∙ ap (λ l. run done (BeforeExpr x (Operands place sign first l ∷ k)) (ahead c.advance.new.self))
           (sym (map_push expr_tree c.loop-expr.invariant.others c.in_ok-expr.expr));
       shorter = let passed = length-passed_sign c.args.sign.text.now
-          (placed c.expr.new.self.token) _ _ c.advance.ensures held in
+          (placed c.expression.new.self.token) _ _ c.advance.ensures held in
           omega (arith, passed, c.in_ok-expr.ensures.shorter, c.loop-expr.invariant.shorter);
     }

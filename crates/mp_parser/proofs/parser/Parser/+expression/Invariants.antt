@@ -2,9 +2,11 @@ use Rattle.std.proofs.Common.{◌≡◌, ◌≤◌, ◌+◌, ◌*◌, List, [], 
 use Rattle.mp_parser.specs.declared.place.Place.{Place}
 use Rattle.mp_parser.specs.declared.tree.Expr.{Expr}
 use Rattle.mp_parser.specs.Syntax.{Tree, Statement}
-use Rattle.mp_parser.specs.Machine.{Within, Frame, Operands, BeforeExpr, AfterExpr, run, State}
+use Rattle.mp_parser.specs.Lexing.{token_of}
+use Rattle.mp_parser.specs.Machine.{Within, Frame, Operands, BeforeExpr, AfterExpr, run, State, wildcard_at}
 use Rattle.mp_parser.specs.View.{spot_of_sign, expr_tree}
 use Rattle.mp_parser.specs.Parsing.{ahead, HasRoom, IsRow}
+use Rattle.mp_parser.proofs.Runs.{levels}
 use Rattle.mp_parser.proofs.parser.Parser.+expression.Given as goal
 
 abbrev pub decreases-row : goal.decreases-row
@@ -13,14 +15,11 @@ decreases-row l = 5 * l.room + 5
 abbrev pub decreases-behind_wildcard : goal.decreases-behind_wildcard
 decreases-behind_wildcard l = 5 * l.room + 3
 
-abbrev pub decreases-word_or_bracket : goal.decreases-word_or_bracket
-decreases-word_or_bracket l = 5 * l.room + 2
-
 abbrev pub decreases-behind_word : goal.decreases-behind_word
 decreases-behind_word l = 5 * l.room + 1
 
-abbrev pub decreases-expr : goal.decreases-expr
-decreases-expr l = 5 * l.room + 4
+abbrev pub decreases-expression : goal.decreases-expression
+decreases-expression l = 5 * l.room + levels (wildcard_at (token_of l.self.now.token.kind) l.self.now.token.place)
 
 abbrev pub decreases-infix : goal.decreases-infix
 decreases-infix l = 5 * l.room + 1
