@@ -147,14 +147,20 @@ fn parse<'a>(
     let mut arena = Arena::new(alloc, bump);
     let mut statements = Vec::with_capacity(alloc, statement_room(bytes))?;
     while !parser.is_at_end() {
-        let statement = statement(&mut parser, &mut arena)?;
+        let statement = read_statement(&mut parser, &mut arena)?;
         statements.push(statement)?;
     }
     Ok(statements)
 }
 
-// Reads one statement, where the end is not held.
-fn statement<'a>(
+/// Reads the next statement, where the end is not held: its tokens are passed. What an error leaves is as said of
+/// mp_parser's `Parser`.
+///
+/// - `SyntaxError::Memory` comes where memory runs out.
+/// - `SyntaxError::Fault` comes where the tokens go on with no statement, at the first that doesn't go on with one.
+///
+/// The clause `read` is `StatementFrom` of `specs/StatementParsing.antt`.
+pub fn read_statement<'a>(
     parser: &mut Parser<'a>,
     arena: &mut Arena<'a>,
 ) -> Result<Statement<'a>, SyntaxError>

@@ -9,5 +9,5 @@ pub loop-parser-preserved : goal.loop-parser-preserved
 loop-parser-preserved c =
     c.loop-parser.invariant
     ∙ c.in_ok-statement.ensures.read (map statement_tree c.loop-parser.statements.items)
-    ∙ ap (λ l. run l Top (ahead c.statement.new.parser))
+    ∙ ap (λ l. run l Top (ahead c.read_statement.new.parser))
     (sym (ap (map statement_tree) c.in_ok-push.ensures.items ∙ map_push statement_tree _ _))

@@ -1,5 +1,5 @@
 use Rattle.mp_parser.proofs.Runs.{passes-along}
-use Rattle.mp_syntax.proofs.statement.statement.Goals as goal
+use Rattle.mp_syntax.proofs.statement.read_statement.Goals as goal
 
 pub returns-in-Op-clause-read : goal.returns-in-Op-clause-read
 returns-in-Op-clause-read c = λ done.
