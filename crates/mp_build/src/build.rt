@@ -1,7 +1,7 @@
 //! Makes terms and patterns of expressions, and checks them on the way.
 
-ghost use Rattle.std.specs.Prelude.{◌≡◌, [], ◌++◌, length, map, None, is_some, option_map};
-ghost use Rattle.mp_term.specs.Signature.{allows};
+ghost use Rattle.std.specs.Prelude.{◌≡◌, [], ◌++◌, true, length, map, None, is_some, option_map};
+ghost use Rattle.mp_term.specs.Signature.{allows, well_formed};
 ghost use Rattle.mp_term.specs.View.{tree};
 ghost use Rattle.mp_term.specs.Normal.{normal};
 ghost use Rattle.mp_pattern.specs.SoundRule.{allows_patterns};
@@ -78,9 +78,9 @@ fn build_term(alloc: Global, sig: &Signature, expr: &Expr<'_>) -> Result<Term, T
             sign,
             operands,
         } => infix_term(alloc, sig, place, sign, operands),
-        Expr::Wild(wild) => Err(wildcard_in_term(sig, wild)),
-        Expr::Optional { wildcard, .. } => Err(wildcard_in_term(sig, *wildcard)),
-        Expr::Counted { wildcard, .. } => Err(wildcard_in_term(sig, *wildcard)),
+        Expr::Wild(wild) => Err(wildcard_fault(sig, &wild)),
+        Expr::Optional { wildcard, .. } => Err(wildcard_fault(sig, wildcard)),
+        Expr::Counted { wildcard, .. } => Err(wildcard_fault(sig, wildcard)),
         Expr::Variable(name) => Err(error_at(TextKind::WildcardInTerm, name.place)),
     }
 }
@@ -94,6 +94,17 @@ pub fn normal_term(alloc: Global, sig: &Signature, expr: &Expr<'_>) -> Result<Te
         (λ t. tree t ≡ normal sig.now (term_of sig.now (expr_tree expr.now))) }
 {
     let term = build_term(alloc, sig, expr)?;
+    normal_built(alloc, sig, term)
+}
+
+/// The normal form of a well-formed term, by `normal` of mp_term's `specs/Normal.antt`: the term itself, where it is in
+/// normal form.
+///
+/// `Memory`: memory ran out. No other error comes.
+pub fn normal_built(alloc: Global, sig: &Signature, term: Term) -> Result<Term, TextError>
+    requires { well_formed sig.now (tree term) ≡ true }
+    ensures { Gives result [] (λ t. tree t ≡ normal sig.now (tree term)) }
+{
     if are_few_and_free(sig) || is_normal(sig, &term) {
         return Ok(term);
     }
@@ -107,6 +118,13 @@ pub fn normal_term(alloc: Global, sig: &Signature, expr: &Expr<'_>) -> Result<Te
 /// It takes no memory.
 pub fn wildcard_in_term(sig: &Signature, wild: Wildcard<'_>) -> TextError
     ensures { Fails result (term_wildcard_faults sig.now (wildcard_of wild.entry)) }
+{
+    wildcard_fault(sig, &wild)
+}
+
+/// The first fault of a wildcard in a term.
+fn wildcard_fault(sig: &Signature, wild: &Wildcard<'_>) -> TextError
+    ensures { Fails result (term_wildcard_faults sig.now (wildcard_of wild.now)) }
 {
     match shape(sig, wild, Shape::Dot) {
         Ok(_) => error_at(TextKind::WildcardInTerm, wild.place),
@@ -287,9 +305,9 @@ fn build_patterns<'a>(
 }
 
 /// What a wildcard takes, where there is the kind that it names: without a kind this.
-pub fn shape(sig: &Signature, wild: Wildcard<'_>, plain: Shape) -> Result<Shape, TextError>
-    ensures { Gives result (fault_if (kind_unknown sig.now wild.entry.kind.now) UnknownKind wild.entry.place)
-        (λ s. wildcard s ≡ kind_shape sig.now wild.entry.kind.now (wildcard plain)) }
+pub fn shape(sig: &Signature, wild: &Wildcard<'_>, plain: Shape) -> Result<Shape, TextError>
+    ensures { Gives result (fault_if (kind_unknown sig.now wild.now.kind.now) UnknownKind wild.now.place)
+        (λ s. wildcard s ≡ kind_shape sig.now wild.now.kind.now (wildcard plain)) }
 {
     if wild.kind.is_empty() {
         return Ok(plain);
@@ -301,8 +319,8 @@ pub fn shape(sig: &Signature, wild: Wildcard<'_>, plain: Shape) -> Result<Shape,
 }
 
 /// The variable of a wildcard, where it has a name.
-pub fn variable(alloc: Global, wild: Wildcard<'_>) -> Result<Option<Name>, TextError>
-    ensures { Gives result [] (λ v. v ≡ variable_of wild.entry.name.now) }
+pub fn variable(alloc: Global, wild: &Wildcard<'_>) -> Result<Option<Name>, TextError>
+    ensures { Gives result [] (λ v. v ≡ variable_of wild.now.name.now) }
 {
     if wild.name.is_empty() {
         return Ok(None);

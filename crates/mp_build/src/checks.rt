@@ -161,36 +161,27 @@ pub fn is_large_operand(expr: &Expr<'_>) -> bool
     node_count(expr) > MAX_OPERAND_NODES
 }
 
-/// The least number of arguments that an expression of a pattern takes.
-fn least(expr: &Expr<'_>) -> usize
-    ensures { (sig : Sig) → result ≡ pattern_least (pattern_of sig (expr_tree expr.now)) }
+/// The least number of arguments that an expression of a pattern takes, and the greatest, of an operation that may be
+/// associative. None: there is no bound.
+fn taken(assoc: bool, expr: &Expr<'_>) -> (usize, Option<usize>)
+    ensures { (sig : Sig) → (result.0 ≡ pattern_least (pattern_of sig (expr_tree expr.now)))
+        × (result.1 ≡ pattern_most assoc (pattern_of sig (expr_tree expr.now))) }
 {
     match *expr {
-        Expr::Wild(wild) if wild.kind.is_empty() => marked_shape(wild.marks).least(),
-        Expr::Optional { .. } => 0,
+        Expr::Wild(wild) if wild.kind.is_empty() => {
+            let shape = marked_shape(wild.marks);
+            (shape.least(), shape.most(assoc))
+        }
+        Expr::Optional { .. } => (0, if assoc { None } else { Some(1) }),
         Expr::Counted {
             wildcard,
             count,
             open: is_open,
-        } if wildcard.kind.is_empty() => counted_shape(count_of(*count), is_open).least(),
-        _ => 1,
-    }
-}
-
-/// The greatest number of arguments that an expression of a pattern takes, of an operation that may be associative.
-/// None: there is no bound.
-fn most(assoc: bool, expr: &Expr<'_>) -> Option<usize>
-    ensures { (sig : Sig) → result ≡ pattern_most assoc (pattern_of sig (expr_tree expr.now)) }
-{
-    match *expr {
-        Expr::Wild(wild) if wild.kind.is_empty() => marked_shape(wild.marks).most(assoc),
-        Expr::Optional { .. } if assoc => None,
-        Expr::Counted {
-            wildcard,
-            count,
-            open: is_open,
-        } if wildcard.kind.is_empty() => counted_shape(count_of(*count), is_open).most(assoc),
-        _ => Some(1),
+        } if wildcard.kind.is_empty() => {
+            let shape = counted_shape(count_of(*count), is_open);
+            (shape.least(), shape.most(assoc))
+        }
+        _ => (1, Some(1)),
     }
 }
 
@@ -202,12 +193,12 @@ pub fn allows_patterns(decl: &OpDecl, args: &[Expr<'_>]) -> bool
     let mut missing = decl.least as usize;
     let mut room = missing;
     for arg in args {
-        let least = least(arg);
+        let (least, most) = taken(decl.assoc, arg);
         if decl.fixed && room < least {
             return false;
         }
         room = room.saturating_sub(least);
-        missing = match most(decl.assoc, arg) {
+        missing = match most {
             None => 0,
             Some(most) => missing.saturating_sub(most),
         };

@@ -29,7 +29,7 @@ mod written;
 
 pub use alone::{read_pattern, read_term};
 pub use arguments::{Arguments, head_op, sign_op};
-pub use build::{new_name, normal_term, symbol, whole_pattern, wildcard_in_term};
+pub use build::{new_name, normal_built, normal_term, symbol, whole_pattern, wildcard_in_term};
 pub use checks::{is_large_pattern, is_large_template, is_large_term, number_of};
 pub use cond_alone::{read_cond, read_loose_cond};
 pub use condition::build_condition;
@@ -39,4 +39,5 @@ pub use edit::{build_edits, check_edits_of, is_large_edit};
 pub use extent::Extent;
 pub use fault::{TextError, TextFault, TextKind, error_at};
 pub use normal::normal_pattern;
+pub use operations::find_decl;
 pub use scope::{Scope, Variable, is_bound, is_bound_sequence, pattern_variables};

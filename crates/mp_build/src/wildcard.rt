@@ -1,6 +1,6 @@
 //! Makes the wildcards of patterns, and checks that those of one variable are the same.
 
-ghost use Rattle.std.specs.Prelude.{◌≡◌, [], ◌∷◌, ◌++◌, map};
+ghost use Rattle.std.specs.Prelude.{◌≡◌, List, [], ◌∷◌, ◌++◌, map};
 ghost use Rattle.std.specs.List.{list_any};
 ghost use Rattle.mp_term.specs.View.{tree};
 ghost use Rattle.mp_term.specs.Normal.{normal};
@@ -8,11 +8,14 @@ ghost use Rattle.mp_pattern.specs.PatternTree.{optional, wild_pattern};
 ghost use Rattle.mp_pattern.specs.View.{pattern_tree, wildcard};
 ghost use Rattle.mp_parser.specs.View.{spot_of, wildcard_of, expr_tree};
 ghost use Rattle.mp_build.specs.Answers.{Gives};
-ghost use Rattle.mp_build.specs.Build.{kind_shape, shape_of, counted_shape_of, variable_of, term_of};
+ghost use Rattle.mp_build.specs.Build.{shape_of, counted_shape_of, variable_of, term_of};
 ghost use Rattle.mp_build.specs.Wildcards.{default_form, without_default, with_count, with_default_form, same_default};
 ghost use Rattle.mp_build.specs.Wildcards.{same_class, differs};
+ghost use Rattle.mp_build.specs.declared.wildcard.PatternWildcard as code;
 ghost use Rattle.mp_build.specs.WildcardView.{default_view, wildcard_view};
-ghost use Rattle.mp_build.specs.Checks.{wildcard_faults, count_faults, default_faults};
+ghost use Rattle.mp_build.specs.Checks.{fault_if, wildcard_faults, count_faults, default_faults};
+ghost use Rattle.mp_build.specs.ScopeView.{extent_view};
+ghost use Rattle.mp_build.specs.declared.fault.TextKind.TheVariants.{KindClash};
 
 use crate::build::{normal_term, shape, variable, wildcard_in_term};
 use crate::extent::{
@@ -65,12 +68,9 @@ pub fn build_wildcard<'a>(
         × (map wildcard_view before.new.items
         ≡ map wildcard_view before.old.items ++ without_default (wildcard_of wild.entry) ∷ [])) }
 {
-    let wildcard = PatternWildcard {
-        wildcard: wild,
-        extent: marked_extent(wild.marks),
-        default: DefaultForm::Absent,
-    };
-    let (shape, name) = add_wildcard(alloc, sig, wildcard, marked_shape(wild.marks), before)?;
+    let shape = shape(sig, &wild, marked_shape(wild.marks))?;
+    let extent = marked_extent(wild.marks);
+    let name = add_wildcard(alloc, &wild, extent, DefaultForm::Absent, before)?;
     Ok(Pattern::Wild(shape, name))
 }
 
@@ -95,13 +95,9 @@ pub fn build_counted<'a>(
         ∷ [])) }
 {
     let number = count_of(count);
-    let wildcard = PatternWildcard {
-        wildcard: wild,
-        extent: counted_extent(number, is_open),
-        default: DefaultForm::Absent,
-    };
-    let plain = counted_shape(number, is_open);
-    let (shape, name) = add_wildcard(alloc, sig, wildcard, plain, before)?;
+    let shape = shape(sig, &wild, counted_shape(number, is_open))?;
+    let extent = counted_extent(number, is_open);
+    let name = add_wildcard(alloc, &wild, extent, DefaultForm::Absent, before)?;
     check_count(count, is_open)?;
     Ok(Pattern::Wild(shape, name))
 }
@@ -125,39 +121,54 @@ pub fn build_optional<'a>(
         ≡ map wildcard_view before.old.items ++ with_default_form sig.now (wildcard_of wild.entry)
         (map wildcard_of others.now) (expr_tree default.now) ∷ [])) }
 {
+    shape(sig, &wild, Shape::Dot)?;
     let form = default_form(alloc, sig, others, default)?;
-    let wildcard = PatternWildcard {
-        wildcard: wild,
-        extent: Extent::one(),
-        default: form,
-    };
-    let (_, name) = add_wildcard(alloc, sig, wildcard, Shape::Dot, before)?;
+    let name = add_wildcard(alloc, &wild, Extent::one(), form, before)?;
     let term = default_term(alloc, sig, others, default)?;
     Ok(Pattern::Wild(Shape::Opt(term), name))
 }
 
-/// What a wildcard behind these takes, which is this without a kind, and its variable; or its first fault. The wildcard
-/// is added to them.
+/// The variable of a wildcard behind these, or its first fault where there is its kind. The wildcard is added to them.
 fn add_wildcard<'a>(
     alloc: Global,
-    sig: &Signature,
-    new: PatternWildcard<'a>,
-    plain: Shape,
+    wild: &Wildcard<'a>,
+    extent: Extent,
+    default: DefaultForm,
     before: &mut Vec<PatternWildcard<'a>>,
-) -> Result<(Shape, Option<Name>), TextError>
-    ensures { Gives result (wildcard_faults sig.now (map wildcard_view before.old.items) (wildcard_view new.entry))
-        (λ r. (wildcard r.0 ≡ kind_shape sig.now new.entry.wildcard.kind.now (wildcard plain))
-        × (r.1 ≡ variable_of new.entry.wildcard.name.now)
-        × (map wildcard_view before.new.items
-        ≡ map wildcard_view before.old.items ++ wildcard_view new.entry ∷ [])) }
+) -> Result<Option<Name>, TextError>
+    ensures { Gives result
+        (fault_if (list_any (differs (record {
+          wildcard = wildcard_of wild.now;
+          extent = extent_view extent;
+          default = default_view default;
+        })) (map wildcard_view before.old.items)) KindClash wild.now.place)
+        (λ v. (v ≡ variable_of wild.now.name.now)
+        × (map wildcard_view before.new.items ≡ map wildcard_view before.old.items ++ record {
+          wildcard = wildcard_of wild.now;
+          extent = extent_view extent;
+          default = default_view default;
+        } ∷ [])) }
 {
-    let shape = shape(sig, new.wildcard, plain)?;
-    if some_differs(&new, before) {
-        return Err(error_at(TextKind::KindClash, new.wildcard.place));
+    before.push(PatternWildcard {
+        wildcard: *wild,
+        extent,
+        default,
+    })?;
+    if last_differs(before) {
+        return Err(error_at(TextKind::KindClash, wild.place));
     }
-    let name = variable(alloc, new.wildcard)?;
-    before.push(new)?;
-    Ok((shape, name))
+    variable(alloc, wild)
+}
+
+/// One of the wildcards before the last has its name, and another class, kind, count or default.
+fn last_differs(wildcards: &[PatternWildcard<'_>]) -> bool
+    ensures { (before : List code.PatternWildcard) (new : code.PatternWildcard) → wildcards.now ≡ before ++ new ∷ []
+        → result ≡ list_any (differs (wildcard_view new)) (map wildcard_view before) }
+{
+    match wildcards {
+        [] => false,
+        [earlier @ .., new] => some_differs(new, earlier),
+    }
 }
 
 /// The normal form of a default, which stands behind further wildcards of a chain, where it has one.

@@ -1,9 +1,12 @@
 use Rattle.std.proofs.lemmas.Result.{err_from_is_err_and}
-use Rattle.mp_build.proofs.Fails.{fails-front}
+use Rattle.mp_build.proofs.Fails.{fails-front, fails-behind}
 use Rattle.mp_build.proofs.wildcard.build_optional.Goals as goal
 
 pub returns-in_err-name : goal.returns-in_err-name
 returns-in_err-name c =
     let p = err_from_is_err_and c.from_residual-in_err-name.result c.from_residual-in_err-name.ensures.1 in
+    let e = c.in_err-name.field-0.0 in
     rw (p.1, p.2)
-    (fails-front c.in_err-name.field-0.0 _ _ (rw (c.in_ok-form.ensures.1, c.one.ensures) at c.in_err-name.ensures))
+    (fails-front e _ _
+    (fails-behind e _ _ c.in_ok-shape.ensures.0
+    (rw (c.in_ok-form.ensures.1, c.one.ensures) at c.in_err-name.ensures)))
