@@ -80,33 +80,12 @@ module _ (sig : Sig) (t : plain_table.Table) (fs : List Frame) (are : AreFrames 
           ≡ (is_none o && is_done (open_of t f).left f.owes)
       by_outer o h = by_opens o (opens t fs o) refl h
 
--- a test of three parts by the first two
-pub parts-true : (a b c v : Bool) → v ≡ (a && b) → v ≡ true → c ≡ (a && (b && c))
-parts-true true true c v e h = refl
-parts-true true false c v e h = (let z : false ≡ true = sym e ∙ h in cc)
-parts-true false b c v e h = (let z : false ≡ true = sym e ∙ h in cc)
-
-pub parts-false : (a b c v : Bool) → v ≡ (a && b) → v ≡ false → v ≡ (a && (b && c))
-parts-false true true c v e h = (let z : true ≡ false = sym e ∙ h in cc)
-parts-false true false c v e h = h
-parts-false false b c v e h = h
-
-none-told : {X : Type 0} (o : Option X) (r : Bool) → is_some o ≡ not r → r ≡ is_none o
+-- the test for no value
+pub none-told : {X : Type 0} (o : Option X) (r : Bool) → is_some o ≡ not r → r ≡ is_none o
 none-told None true e = refl
 none-told None false e = (let z : false ≡ true = e in cc)
 none-told (Some x) true e = (let z : true ≡ false = e in cc)
 none-told (Some x) false e = refl
-
--- the test of the first two parts, which looks at the second only where the first holds
-pub test-then : {X : Type 0} (m : ℕ) (v r : Bool) (o : Option X) → 0 < m → v ≡ r → is_some o ≡ not r
-    → v ≡ (nat_lt 0 m && is_none o)
-test-then m v r o h e k =
-    e ∙ none-told o r k ∙ sym (ap (λ b. b && is_none o) (let z : nat_lt 0 m ≡ true = grind (arith, nat_tests, h) in z))
-
-pub test-else : {X : Type 0} (m : ℕ) (v : Bool) (o : Option X) → m ≤ 0 → v ≡ nat_lt 0 m → v ≡ (nat_lt 0 m && is_none o)
-test-else m v o h e =
-    let z : nat_lt 0 m ≡ false = grind (arith, nat_tests, h) in
-    e ∙ z ∙ sym (ap (λ b. b && is_none o) z)
 
 -- what is put out of an instruction's number
 pub put-leaf : (sig : Sig) (n : ℕ) (rs : List ℕ) (s : State) (before : Table) (b : Bool)

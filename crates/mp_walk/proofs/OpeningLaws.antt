@@ -2,11 +2,10 @@
 use Rattle.std.proofs.Common.{◌≡◌, ◌≤◌, ◌<◌, ◌+◌, ◌++◌, ℕ, zero, suc, List, [], ◌∷◌, length, take, drop, Bool, true}
 use Rattle.std.proofs.Common.{false, not, ◌&&◌, ◌⊎◌, inl, inr, nat_eq, refl, ap, sym, ◌∙◌, subst, arith}
 use Rattle.std.specs.Prelude.{Option, Some, slice_get, slice_index_or}
-use Rattle.mp_term.specs.Tree.{Tree, symbol}
+use Rattle.mp_term.specs.Tree.{Tree}
 use Rattle.mp_term.specs.Signature.{Sig, is_comm}
 use Rattle.std.proofs.lemmas.List.{length-append}
 use Rattle.mp_table.specs.Table.{Table}
-use Rattle.mp_theory.specs.Machine as machine
 use Rattle.mp_pattern.specs.Variables.{comm_above}
 use Rattle.mp_walk.specs.declared.frame.Frame.{Frame}
 use Rattle.mp_walk.specs.OpenOnes.{above, open_of, opens, IsFrame, IsFrameAt, IsPlaceBelow, AreFrames}

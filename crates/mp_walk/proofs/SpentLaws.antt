@@ -1,7 +1,9 @@
 -- What holds of a course when a token that has no step left is passed over.
-use Rattle.std.proofs.Common.{◌≡◌, ◌<◌, ◌+◌, ℕ, List, [], ◌++◌, map, take, refl, ap, sym, ◌∙◌, subst}
+use Rattle.std.proofs.Common.{◌≡◌, ◌<◌, ℕ, Bool, true, false, List, [], ◌++◌, map, take, refl, ap, sym, ◌∙◌, subst}
 use Rattle.std.proofs.Common.{arith}
-use Rattle.std.specs.Prelude.{Option, Some, None, slice_get}
+use Rattle.std.specs.Prelude.{Option, Some, None, IsSome, option_map, slice_get}
+use Rattle.mp_term.specs.Signature.{Sig}
+use Rattle.mp_pattern.specs.NetTokens.{NetToken, sym_token, enter_token, leave_token, wild_token, comm_token}
 use Rattle.mp_pattern.specs.Value.{Subst}
 use Rattle.mp_subst.specs.Trail.{Trail, length_at, cut}
 use Rattle.mp_subst.proofs.TrailLaws.{cut-cut}
@@ -9,6 +11,7 @@ use Rattle.mp_walk.specs.Rooms.{target_room}
 use Rattle.mp_walk.proofs.RoomLaws.{beside-room}
 use Rattle.mp_walk.specs.declared.course.Course.{Course}
 use Rattle.mp_walk.specs.declared.frame.Frame.{Frame}
+use Rattle.mp_walk.specs.declared.key.InstrKey.{InstrKey}
 use Rattle.mp_walk.specs.declared.level.Level.{Level}
 use Rattle.mp_walk.specs.declared.setting.Setting.{Setting}
 use Rattle.mp_walk.specs.Below.{below_ahead}
@@ -16,12 +19,13 @@ use Rattle.mp_walk.specs.Course.{Read, unread, reads_to_come, table_read, to_com
 use Rattle.mp_walk.specs.CourseView.{reads_of, course_of, course_to_come, LeadsTo, IsCourse, StandsBehind, IsLeftBehind}
 use Rattle.mp_walk.specs.CourseVisits.{course_visits, visits_from, visits_behind}
 use Rattle.mp_walk.specs.Instrs.{Instr, instr_at}
+use Rattle.mp_walk.specs.Keys.{instr_key, name_key, token_key}
 use Rattle.mp_walk.specs.Levels.{read_of, trail_before, HasRoom, search_of}
 use Rattle.mp_walk.specs.OpenOnes.{opens, open_of}
 use Rattle.mp_walk.specs.TokenMachine.{begin_state, Open}
 use Rattle.mp_ac.specs.Numbered.{numbered_subst, IsTrailOf}
 use Rattle.mp_walk.specs.WalkView.{subject_of}
-use Rattle.mp_walk.specs.Ways.{HasNoWay}
+use Rattle.mp_walk.specs.Ways.{HasNoWay, is_first_symbol}
 use Rattle.mp_walk.proofs.ChainLaws.{alike-same, chain-end}
 use Rattle.mp_walk.proofs.CodePaths.{over-target, instr-there}
 use Rattle.mp_walk.proofs.CourseLaws.{over-to_come}
@@ -32,6 +36,7 @@ use Rattle.mp_walk.proofs.StandingLaws.{kept-to_come}
 use Rattle.mp_walk.proofs.StepLaws.{step-none}
 use Rattle.mp_walk.proofs.TurnLaws.{opens-ordered, new-to_come}
 use Rattle.mp_walk.proofs.VisitLaws.{unread-visits, over-visits}
+use Rattle.mp_walk.proofs.WayLaws.{no-symbol}
 
 -- no step is left of a token that has no way
 pub no-step : (c : Course) → IsCourse c → (n : ℕ) (i : Instr) (place : ℕ) (f : Frame) → c.place ≡ Some place
@@ -44,6 +49,32 @@ no-step c C n i place f e at h =
     step-none c.set.sig.now i.token (unread n (course_of c).present) (open_of t f) (opens t fs f.outer)
     (ap (opens t fs) e ∙ opens-is t c.set.sig.now fs C.frames place f at) refl
     (h (opens t fs f.outer) (course_of c).present.trail)
+
+-- a symbol of another key than the first term that is left has no way
+pub other-symbol : (sig : Sig) (f : Open) (fs : List Open) (s : Subst) (k : NetToken) (first : ℕ)
+    → ((name : List ℕ) → is_first_symbol name f.left ≡ true → first ≡ name_key name)
+    → (token_key k ≡ 0 → ⊥) → (token_key k ≡ first → ⊥) → HasNoWay sig f fs s k 0
+other-symbol sig f fs s (sym_token n) first h own other =
+    no-symbol sig f fs s n (refused (is_first_symbol n f.left) (λ e. other (sym (h n e))))
+  where
+    refused : (b : Bool) → (b ≡ true → ⊥) → b ≡ false
+    refused true h = absurd (h refl)
+    refused false h = refl
+other-symbol sig f fs s (enter_token g) first h own other = absurd (own refl)
+other-symbol sig f fs s (leave_token g) first h own other = absurd (own refl)
+other-symbol sig f fs s (wild_token w x) first h own other = absurd (own refl)
+other-symbol sig f fs s (comm_token p) first h own other = absurd (own refl)
+
+-- something is seen of an instruction that is there
+pub none-seen : (o : Option Instr) → IsSome o → option_map instr_key o ≡ None → ⊥
+none-seen None h e = cc
+none-seen (Some i) h e = cc
+
+-- the instruction of which so much is seen
+instr-seen : (o : Option Instr) (own : InstrKey) → option_map instr_key o ≡ Some own
+    → (i : Instr) × (o ≡ Some i) × (instr_key i ≡ own)
+instr-seen None own e = cc
+instr-seen (Some i) own e = (i, refl, cc)
 
 -- nothing of the token is read yet
 module _ (c : Course) (C : IsCourse c) (n : ℕ) (e : c.target ≡ Some n) (i : Instr)
@@ -102,6 +133,26 @@ module _ (c : Course) (C : IsCourse c) (n : ℕ) (e : c.target ≡ Some n) (i : 
       (opens-ordered sig c.set.table.now c.frames.items C.frames c.place C.place) in
       let over = over-visits sig code (unread n p) i held nothing in
       omega (arith, target, visits, over)
+
+-- a symbol of another key than the first term that is left is passed over: the same is to come, and less is to be read
+pub key-passed : (c : Course) (C : IsCourse c) (n : ℕ) (e : c.target ≡ Some n) (place : ℕ) (f : Frame)
+    → c.place ≡ Some place → slice_get c.frames.items place ≡ Some f → (own : InstrKey)
+    → option_map instr_key (instr_at c.set.code.now.instrs n) ≡ Some own → (first : ℕ)
+    → ((name : List ℕ) → is_first_symbol name (open_of c.set.table.now f).left ≡ true → first ≡ name_key name)
+    → (own.symbol ≡ 0 → ⊥) → (own.symbol ≡ first → ⊥)
+    → IsCourse (record c { target = own.over })
+    × (course_to_come (record c { target = own.over }) ≡ course_to_come c)
+    × (course_visits (record c { target = own.over }) < course_visits c)
+key-passed c C n e place f p at own seen first named symbol other =
+    let i = instr-seen (instr_at c.set.code.now.instrs n) own seen in
+    let key = ap (λ k. k.symbol) i.2 in
+    let nothing = no-step c C n i.0 place f p at
+    (λ gs s. other-symbol c.set.sig.now (open_of c.set.table.now f) gs s i.0.token first named
+    (λ z. symbol (sym key ∙ z)) (λ z. other (sym key ∙ z))) in
+    subst (λ k. IsCourse (record c { target = k.over })
+    × (course_to_come (record c { target = k.over }) ≡ course_to_come c)
+    × (course_visits (record c { target = k.over }) < course_visits c)) i.2
+    (passed-course c C n e i.0 i.1 nothing, passed-to_come c C n e i.0 i.1 nothing, passed-less c C n e i.0 i.1 nothing)
 
 -- no step is left of a token in open operations, from the way of the number on
 abbrev pub IsSpentIn : Setting → List Frame → Option ℕ → Instr → ℕ → Type 0

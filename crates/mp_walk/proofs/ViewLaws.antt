@@ -1,7 +1,6 @@
 -- A walk as what it is read as.
 use Rattle.std.proofs.Common.{◌≡◌, ◌≤◌, ◌-◌, ℕ, zero, suc, arith, List, [], ◌∷◌, refl, ap, sym, ◌∙◌, subst}
 use Rattle.std.specs.Prelude.{Some, IsSome, IfOk, Result, Ok, Err, slice_index_or, length}
-use Rattle.mp_subst.proofs.TrailLaws.{item_at}
 use Rattle.mp_walk.specs.declared.course.Course.{Course}
 use Rattle.mp_walk.specs.declared.level.Level.{Level}
 use Rattle.mp_walk.specs.declared.stage.Stage.{Stage}

@@ -1,5 +1,6 @@
 -- What holds of a table of instructions that is ready to be walked.
-use Rattle.std.specs.Prelude.{◌≡◌, ◌≤◌, ⊤, ℕ, zero, suc, List, length, Option, Some, None, slice_get, slice_index_or}
+use Rattle.std.specs.Prelude.{◌≡◌, ◌≤◌, ⊤, ℕ, zero, suc, List, length, map, Option, Some, None, slice_get}
+use Rattle.std.specs.Prelude.{slice_index_or}
 use Rattle.std.specs.List.{AllByRecursion}
 use Rattle.mp_term.specs.Signature.{Sig}
 use Rattle.mp_pattern.specs.NetTokens.{NetToken, comm_token}
@@ -8,6 +9,7 @@ use Rattle.mp_ac.specs.declared.comm_plans.CommPlans.{CommPlans}
 use Rattle.mp_ac.specs.declared.comm_plans.Prepared.{Prepared}
 use Rattle.mp_walk.specs.CodeForest.{code_forest}
 use Rattle.mp_walk.specs.Instrs.{Instr, instr_at}
+use Rattle.mp_walk.specs.Keys.{instr_key}
 use Rattle.mp_walk.specs.Rooms.{forest_room}
 use Rattle.mp_walk.specs.declared.code.Code.{Code}
 use Rattle.mp_walk.specs.declared.code.Plans.{Plans}
@@ -37,7 +39,9 @@ pub record ArePlanned (sig : Sig) (is : List Instr) (x : Plans) : Type 0 where
       → IsPlanned sig x.plans i.token (plan_at x.numbers.items x.plans.list.items n)
   pub plans : ArePlans sig x.plans
 
--- the patterns of the instructions are prepared, and it is known how much of a trail's room they take
+-- the patterns of the instructions are prepared, their keys are at hand, and it is known how much of a trail's room
+-- they take
 pub record IsCode (sig : Sig) (c : Code) : Type 0 where
   pub planned : ArePlanned sig c.instrs c.plans
+  pub keys : c.keys.items ≡ map instr_key c.instrs
   pub room : c.room ≡ forest_room (code_forest c.instrs)

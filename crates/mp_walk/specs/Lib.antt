@@ -13,6 +13,7 @@ pub mod Ways
 pub mod Trails
 pub mod Course
 pub mod Rooms
+pub mod Keys
 pub mod Code
 pub mod Setting
 pub mod Below

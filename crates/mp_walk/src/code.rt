@@ -12,11 +12,13 @@ ghost use Rattle.mp_walk.specs.CodeForest.{code_forest};
 ghost use Rattle.mp_walk.specs.Instrs as plain;
 ghost use Rattle.mp_walk.specs.Instrs.{accepts_at, instr_at};
 ghost use Rattle.mp_walk.specs.InstrView.{plain_instr};
+ghost use Rattle.mp_walk.specs.Keys.{instr_key};
 ghost use Rattle.mp_walk.specs.Rooms.{forest_room, room_at, token_room};
 ghost use Rattle.mp_walk.specs.SoundTokens.{IsSoundToken, token_nodes};
 ghost use Rattle.mp_walk.specs.Walkable.{IsWalkable};
 
 use crate::instr::{Instr, Instrs};
+use crate::key::{InstrKey, keys_of};
 use mp_ac::{CommPlans, Prepared};
 use mp_pattern::{NetToken, Pattern};
 use mp_term::{Memory, Signature};
@@ -32,11 +34,13 @@ pub(crate) struct Plans {
 
 /// A table of instructions that is ready to be walked: the pattern of each token of a commutative application is
 /// prepared. `IsCode` of `specs/Code.antt` says over which signature.
-// With it goes how much of a trail's room a walk takes at most, beside the terms of its subject.
+// With it go the keys of the instructions, since what is passed over need not be looked at as a whole, and how much of
+// a trail's room a walk takes at most, beside the terms of its subject.
 #[derive(Drop)]
 pub struct Code {
     pub(crate) instrs: Instrs,
     pub(crate) plans: Plans,
+    pub(crate) keys: Vec<InstrKey>,
     pub(crate) room: u32,
 }
 
@@ -160,10 +164,12 @@ impl Code {
         ensures planned { IfOk result (IsCode sig.now) }
     {
         let plans = plans_of(alloc, sig, instrs.as_slice())?;
+        let keys = keys_of(alloc, instrs.as_slice())?;
         let room = room_of(alloc, sig, &instrs)?;
         Ok(Code {
             instrs,
             plans,
+            keys,
             room,
         })
     }
@@ -195,6 +201,16 @@ impl Code {
             → IsPlanned sig self.now.plans.plans i.token result }
     {
         self.plans.at(number as usize)
+    }
+
+    // What is seen of the instruction of the number at a glance.
+    pub(crate) fn key(&self, number: u32) -> Option<InstrKey>
+        ensures { (sig : Sig) → IsCode sig self.now → option_map instr_key (instr_at self.now.instrs number) ≡ result }
+    {
+        if number == 0 {
+            return None;
+        }
+        self.keys.get(number as usize - 1).copied()
     }
 
     /// The instruction of the number, from 1. It is None exactly where there is none.

@@ -25,7 +25,7 @@ use crate::level::Level;
 use crate::opening::opened;
 use crate::reading::read;
 use crate::setting::Setting;
-use crate::steps::{is_other_symbol, is_spent, way_from};
+use crate::steps::{is_spent, way_from};
 use mp_ac::CommStore;
 use mp_pattern::{MAX_VARIABLES, NetToken};
 use mp_subst::Trail;
@@ -101,11 +101,14 @@ impl<'a> Course<'a> {
         ensures { (n : ℕ) (before : Table) → put_out (token_steps self.now.set.sig.now) token_ends
             (leaf n instr.now.accepts) (course_of self.now).present before ≡ (if result then (n, before) ∷ [] else []) }
     {
+        if instr.accepts.len() == 0 {
+            return false;
+        }
         let Some(place) = self.place else {
             return false;
         };
         let frame = &self.frames[place];
-        instr.accepts.len() > 0 && frame.outer.is_none() && frame.is_done(self.set.table)
+        frame.outer.is_none() && frame.is_done(self.set.table)
     }
 
     // Leaves a token behind, and goes on to what stands beside it.
@@ -140,10 +143,10 @@ impl<'a> Course<'a> {
         };
         let Setting { sig, table, .. } = self.set;
         let way = level.next.saturating_sub(1);
+        self.levels.push(level)?;
         self.frames.reserve(2)?;
         self.place = opened(sig, table, &instr.token, place, way, &mut self.frames);
         self.target = instr.down;
-        self.levels.push(level)?;
         Ok(if self.accepts(instr) {
             Turn::Found
         } else {
@@ -222,8 +225,8 @@ impl<'a> Course<'a> {
             return Ok(Turn::On);
         };
         let mark = self.trail.mark();
-        let frame = self.frames[place];
-        let Some(way) = way_from(sig, table, &frame, &instr.token, 0, &mut self.trail) else {
+        let frame = &self.frames[place];
+        let Some(way) = way_from(sig, table, frame, &instr.token, 0, &mut self.trail) else {
             self.target = instr.over;
             return Ok(Turn::On);
         };
@@ -274,13 +277,13 @@ impl<'a> Course<'a> {
         let Some(number) = self.target else {
             return false;
         };
-        match self.set.code.instr(number) {
-            Some(instr) => matches!(&instr.token, NetToken::Sym(_)),
+        match self.set.code.key(number) {
+            Some(own) => own.symbol != 0,
             None => false,
         }
     }
 
-    // Leaves the symbols behind that are to be tried and aren't the first term that is left.
+    // Leaves the symbols behind that are to be tried and aren't the first term that is left, as their keys tell.
     fn pass_symbols(&mut self)
         requires { IsCourse self.old }
         ensures course { IsCourse self.new }
@@ -295,16 +298,18 @@ impl<'a> Course<'a> {
             return;
         };
         let Setting { code, table, .. } = self.set;
-        let first = self.frames[place].first_name(table);
-        while let Some(number) = self.target {
-            let Some(instr) = code.instr(number) else {
+        let first = self.frames[place].first_key(table);
+        let mut target = self.target;
+        while let Some(number) = target {
+            let Some(own) = code.key(number) else {
                 unreachable!()
             };
-            if !is_other_symbol(first, &instr.token) {
-                return;
+            if own.symbol == 0 || own.symbol == first {
+                break;
             }
-            self.target = instr.over;
+            target = own.over;
         }
+        self.target = target;
     }
 
     // One turn: the next step of a token is taken, or the token is left behind.

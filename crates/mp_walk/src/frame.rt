@@ -1,15 +1,17 @@
 //! The operations that a walk has open.
-ghost use Rattle.std.specs.Prelude.{◌≡◌, ◌≤◌, false, nat_eq, [], ◌∷◌, drop, length};
+ghost use Rattle.std.specs.Prelude.{◌≡◌, ◌≤◌, false, true, nat_eq, [], ◌∷◌, drop, length};
 ghost use Rattle.std.specs.Prelude.{None, Some};
 ghost use Rattle.std.specs.Prelude.{ℕ, List, MatchOption, IfSome};
 ghost use Rattle.std.specs.Str.{bytes_eq};
 ghost use Rattle.mp_table.specs.Table.{HasRank, term_at};
 ghost use Rattle.mp_theory.specs.Frames.{is_done};
+ghost use Rattle.mp_walk.specs.Keys.{name_key};
 ghost use Rattle.mp_walk.specs.OpenOnes.{IsFrame, open_of};
 ghost use Rattle.mp_walk.specs.TokenMachine.{begin_state, opened};
 ghost use Rattle.mp_walk.specs.Ways.{first_entry, is_first_symbol};
 ghost use Rattle.mp_walk.specs.WalkView.{subject_of};
 
+use crate::key::name_key;
 use mp_table::{Head, Rank, Table};
 use mp_term::OpId;
 
@@ -97,6 +99,18 @@ impl<'a> Frame<'a> {
         match table.head(first) {
             Head::Sym(name) => Some(name.bytes()),
             Head::App(_) => None,
+        }
+    }
+
+    // The key of the first term that is left, if that is a symbol.
+    pub(crate) fn first_key(&self, table: &Table) -> u32
+        requires { IsFrame table.now self.now }
+        ensures { (name : List ℕ) → is_first_symbol name (open_of table.now self.now).left ≡ true
+            → result ≡ name_key name }
+    {
+        match self.first_name(table) {
+            None => 0,
+            Some(name) => name_key(name),
         }
     }
 

@@ -11,6 +11,7 @@ mod found;
 mod frame;
 mod front;
 mod instr;
+mod key;
 mod level;
 mod named;
 mod opening;

@@ -1,7 +1,6 @@
 //! The steps of a token in the innermost open operation.
 ghost use Rattle.std.specs.Prelude.{◌≡◌, ◌≤◌, ◌<◌, ◌+◌, ◌-◌, ◌^◌, ◌&&◌, [], ◌∷◌, ℕ, List, length, None, false};
 ghost use Rattle.std.specs.Prelude.{IfSome, IsFalse, IsTrue, MatchBool, MatchOption, if◌then◌else◌};
-ghost use Rattle.std.specs.Str.{bytes_eq};
 ghost use Rattle.mp_term.specs.NormalTest.{has_head};
 ghost use Rattle.mp_term.specs.Signature.{is_one, Sig};
 ghost use Rattle.mp_pattern.specs.NetTokens.{enter_token};
@@ -38,19 +37,6 @@ fn is_first_symbol(table: &Table, frame: &Frame<'_>, name: &Name) -> bool
     match frame.first_name(table) {
         None => false,
         Some(own) => same_bytes(own, name.bytes()),
-    }
-}
-
-// The token is a symbol other than the first term that is left, whose bytes are given where it is a symbol too.
-pub(crate) fn is_other_symbol(first: Option<&[u8]>, token: &NetToken) -> bool
-    ensures { IsTrue result → (sig : Sig) (f : Open) (fs : List Open) (s : Subst)
-        → ((name : List ℕ) → MatchOption first.entry (is_first_symbol name f.left ≡ false)
-        (λ own. is_first_symbol name f.left ≡ bytes_eq own.now name)) → HasNoWay sig f fs s (net_token token.now) 0 }
-{
-    match (token, first) {
-        (NetToken::Sym(name), Some(own)) => !same_bytes(own, name.bytes()),
-        (NetToken::Sym(_), None) => true,
-        _ => false,
     }
 }
 

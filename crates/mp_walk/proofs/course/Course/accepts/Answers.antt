@@ -1,14 +1,16 @@
-use Rattle.std.proofs.Common.{◌≡◌, length, ◌&&◌, nat_lt, ap, sym}
-use Rattle.std.proofs.Common.{◌∙◌, subst}
-use Rattle.std.specs.Prelude.{is_none}
+use Rattle.std.proofs.Common.{◌≡◌, ℕ, Bool, true, false, length, ◌&&◌, nat_lt, ap, sym, ◌∙◌, subst, arith}
+use Rattle.std.specs.Prelude.{Some, is_none, slice_get}
+use Rattle.std.proofs.lemmas.Bool.Decides.{nat_tests}
 use Rattle.mp_theory.specs.Frames.{is_done}
+use Rattle.mp_walk.specs.CourseView.{IsCourse}
+use Rattle.mp_walk.specs.declared.course.Course.{Course}
+use Rattle.mp_walk.specs.declared.frame.Frame.{Frame}
 use Rattle.mp_walk.specs.OpenOnes.{IsPlaceBelow, open_of}
 use Rattle.mp_walk.specs.Levels.{state_of}
 use Rattle.mp_walk.specs.TokenMachine.{token_ends}
 use Rattle.mp_walk.proofs.OpeningLaws.{index-at, outer-below}
-use Rattle.mp_walk.proofs.DownLaws.{ends-at, put-leaf, parts-true, parts-false, test-then, test-else}
+use Rattle.mp_walk.proofs.DownLaws.{ends-at, none-told, put-leaf}
 use Rattle.mp_walk.proofs.course.Course.accepts.Goals as goal
-use Rattle.mp_walk.proofs.course.Course.accepts.Goals.{then-len-gt0, else-len-gt0}
 
 pub is_done-requires : goal.is_done-requires
 is_done-requires c =
@@ -17,66 +19,56 @@ is_done-requires c =
     (subst (IsPlaceBelow (length c.args.self.now.frames.items)) c.in-Some.is
     c.requires.place) c.index-frame.ensures)).frame
 
+-- whether only the root is open, and done
+ends : (self : Course) → IsCourse self → (i : ℕ) (f : Frame) → self.place ≡ Some i
+    → slice_get self.frames.items i ≡ Some f
+    → token_ends (state_of self.set.table.now self.frames.items self.place self.trail)
+    ≡ (is_none f.outer && is_done (open_of self.set.table.now f).left f.owes)
+ends self C i f e at =
+    let sig = self.set.sig.now in
+    let t = self.set.table.now in
+    let fs = self.frames.items in
+    ap (λ o. token_ends (state_of t fs o self.trail)) e
+    ∙ ends-at sig t fs C.frames i f at (outer-below sig t fs C.frames i f at) self.trail
+
+-- a test of two parts of which the first one holds
+some-and : (m : ℕ) (b : Bool) → (m ≡ 0 → ⊥) → b ≡ (nat_lt 0 m && b)
+some-and m b h = ap (λ t. t && b) (sym some)
+  where
+    some : nat_lt 0 m ≡ true
+    some = grind (arith, nat_tests, h)
+
+pub returns-then-len-eq0 : goal.returns-then-len-eq0
+returns-then-len-eq0 c = λ n before.
+    let self = c.args.self.now in
+    let s = state_of self.set.table.now self.frames.items self.place self.trail in
+    put-leaf self.set.sig.now n c.args.instr.now.accepts s before false
+    (ap (λ m. nat_lt 0 m && token_ends s) (sym c.if-len-eq0.true ∙ c.len.ensures))
+
 pub returns-then-is_none : goal.returns-then-is_none
 returns-then-is_none c = λ n before.
-    let at = index-at c.args.self.now.frames.items c.in-Some.place c.index-frame.result.now
-    (subst (IsPlaceBelow (length c.args.self.now.frames.items)) c.in-Some.is
-    c.requires.place) c.index-frame.ensures in
-    let ends = ends-at c.args.self.now.set.sig.now c.args.self.now.set.table.now c.args.self.now.frames.items
-    c.requires.frames
-    c.in-Some.place c.index-frame.result.now at
-    (outer-below c.args.self.now.set.sig.now c.args.self.now.set.table.now c.args.self.now.frames.items
-    c.requires.frames
-    c.in-Some.place c.index-frame.result.now at) c.args.self.now.trail in
-    let value : c.if-len-gt0.value ≡ (nat_lt 0 c.len.result && is_none c.index-frame.result.now.outer) =
-    elim c.if-len-gt0.branch [
-      | then-len-gt0 w ↦ test-then c.len.result c.if-len-gt0.value w.is_none.result c.index-frame.result.now.outer
-          w.if-len-gt0.true w.value-is w.is_none.ensures
-      | else-len-gt0 w ↦ test-else c.len.result c.if-len-gt0.value c.index-frame.result.now.outer w.if-len-gt0.false
-          w.value-is
-    ] in
-    put-leaf c.args.self.now.set.sig.now n c.args.instr.now.accepts
-    (state_of c.args.self.now.set.table.now c.args.self.now.frames.items c.args.self.now.place
-    c.args.self.now.trail) before c.is_done.result
-    (c.is_done.ensures ∙ parts-true (nat_lt 0 c.len.result) (is_none c.index-frame.result.now.outer)
-    (is_done (open_of c.args.self.now.set.table.now c.index-frame.result.now).left
-    c.index-frame.result.now.owes) c.if-len-gt0.value value c.if-is_none.true
-    ∙ ap (λ m. nat_lt 0 m && (is_none c.index-frame.result.now.outer
-    && is_done (open_of c.args.self.now.set.table.now
-    c.index-frame.result.now).left c.index-frame.result.now.owes)) c.len.ensures
-    ∙ ap (λ b. nat_lt 0 (length c.args.instr.now.accepts) && b) (sym ends)
-    ∙ ap (λ o. nat_lt 0 (length c.args.instr.now.accepts)
-    && token_ends (state_of c.args.self.now.set.table.now c.args.self.now.frames.items o c.args.self.now.trail))
-    (sym c.in-Some.is))
+    let self = c.args.self.now in
+    let f = c.index-frame.result.now in
+    let at = index-at self.frames.items c.in-Some.place f
+    (subst (IsPlaceBelow (length self.frames.items)) c.in-Some.is c.requires.place) c.index-frame.ensures in
+    let s = state_of self.set.table.now self.frames.items self.place self.trail in
+    let done = is_done (open_of self.set.table.now f).left f.owes in
+    put-leaf self.set.sig.now n c.args.instr.now.accepts s before c.is_done.result
+    (c.is_done.ensures ∙ ap (λ b. b && done) (sym c.if-is_none.true
+    ∙ none-told f.outer c.is_none.result c.is_none.ensures)
+    ∙ sym (ends self c.requires c.in-Some.place f c.in-Some.is at)
+    ∙ some-and (length c.args.instr.now.accepts) (token_ends s) (λ z. c.if-len-eq0.false (c.len.ensures ∙ z)))
 
 pub returns-else-is_none : goal.returns-else-is_none
 returns-else-is_none c = λ n before.
-    let at = index-at c.args.self.now.frames.items c.in-Some.place c.index-frame.result.now
-    (subst (IsPlaceBelow (length c.args.self.now.frames.items)) c.in-Some.is
-    c.requires.place) c.index-frame.ensures in
-    let ends = ends-at c.args.self.now.set.sig.now c.args.self.now.set.table.now c.args.self.now.frames.items
-    c.requires.frames
-    c.in-Some.place c.index-frame.result.now at
-    (outer-below c.args.self.now.set.sig.now c.args.self.now.set.table.now c.args.self.now.frames.items
-    c.requires.frames
-    c.in-Some.place c.index-frame.result.now at) c.args.self.now.trail in
-    let value : c.if-len-gt0.value ≡ (nat_lt 0 c.len.result && is_none c.index-frame.result.now.outer) =
-    elim c.if-len-gt0.branch [
-      | then-len-gt0 w ↦ test-then c.len.result c.if-len-gt0.value w.is_none.result c.index-frame.result.now.outer
-          w.if-len-gt0.true w.value-is w.is_none.ensures
-      | else-len-gt0 w ↦ test-else c.len.result c.if-len-gt0.value c.index-frame.result.now.outer w.if-len-gt0.false
-          w.value-is
-    ] in
-    put-leaf c.args.self.now.set.sig.now n c.args.instr.now.accepts
-    (state_of c.args.self.now.set.table.now c.args.self.now.frames.items c.args.self.now.place
-    c.args.self.now.trail) before c.if-len-gt0.value
-    (parts-false (nat_lt 0 c.len.result) (is_none c.index-frame.result.now.outer)
-    (is_done (open_of c.args.self.now.set.table.now c.index-frame.result.now).left
-    c.index-frame.result.now.owes) c.if-len-gt0.value value c.if-is_none.false
-    ∙ ap (λ m. nat_lt 0 m && (is_none c.index-frame.result.now.outer
-    && is_done (open_of c.args.self.now.set.table.now
-    c.index-frame.result.now).left c.index-frame.result.now.owes)) c.len.ensures
-    ∙ ap (λ b. nat_lt 0 (length c.args.instr.now.accepts) && b) (sym ends)
-    ∙ ap (λ o. nat_lt 0 (length c.args.instr.now.accepts)
-    && token_ends (state_of c.args.self.now.set.table.now c.args.self.now.frames.items o c.args.self.now.trail))
-    (sym c.in-Some.is))
+    let self = c.args.self.now in
+    let f = c.index-frame.result.now in
+    let at = index-at self.frames.items c.in-Some.place f
+    (subst (IsPlaceBelow (length self.frames.items)) c.in-Some.is c.requires.place) c.index-frame.ensures in
+    let s = state_of self.set.table.now self.frames.items self.place self.trail in
+    let done = is_done (open_of self.set.table.now f).left f.owes in
+    put-leaf self.set.sig.now n c.args.instr.now.accepts s before c.is_none.result
+    (c.if-is_none.false
+    ∙ ap (λ b. b && done) (sym c.if-is_none.false ∙ none-told f.outer c.is_none.result c.is_none.ensures)
+    ∙ sym (ends self c.requires c.in-Some.place f c.in-Some.is at)
+    ∙ some-and (length c.args.instr.now.accepts) (token_ends s) (λ z. c.if-len-eq0.false (c.len.ensures ∙ z)))

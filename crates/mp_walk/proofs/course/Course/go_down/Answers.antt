@@ -9,9 +9,9 @@ use Rattle.mp_walk.specs.OpenOnes.{AreFrames, open_of, opens}
 use Rattle.mp_walk.proofs.DownLaws.{down-valid, down-sound, down-course, down-found}
 use Rattle.mp_walk.proofs.DownLaws.{down-on, down-less, put-ends}
 use Rattle.mp_walk.proofs.course.Course.go_down.Goals as goal
-use Rattle.mp_walk.proofs.course.Course.go_down.Goals.{In_ok-push}
+use Rattle.mp_walk.proofs.course.Course.go_down.Goals.{After-opened-self}
 
-module _ (c : In_ok-push) where
+module _ (c : After-opened-self) where
   abbrev self : Course
   self = c.args.self.now
 
@@ -48,7 +48,7 @@ opened-self-requires-clause-valid c = λ f e.
 
 pub accepts-requires : goal.accepts-requires
 accepts-requires c =
-    let known = (goal.at.accepts-requires c).In_ok-push in
+    let known = (goal.at.accepts-requires c).After-opened-self in
     down-course c.requires.taken.1 c.in-Some.is _ c.opened-self.new.frames _ (made known) (opened known)
     c.opened-self.ensures.place c.opened-self.ensures.frames c.push.new.self c.in_ok-push.ensures.items
     c.args.self.now.alloc c.args.self.now.store c.requires.store
@@ -56,7 +56,7 @@ accepts-requires c =
 pub returns-then-accepts-clause-turn : goal.returns-then-accepts-clause-turn
 returns-then-accepts-clause-turn c = λ before T.
     let n = c.args.level.instr in
-    let known = (goal.at.returns-then-accepts-clause-turn c).In_ok-push in (
+    let known = (goal.at.returns-then-accepts-clause-turn c).After-opened-self in (
       (
         down-course T c.in-Some.is _ c.opened-self.new.frames _ (made known) (opened known)
             c.opened-self.ensures.place c.opened-self.ensures.frames c.push.new.self c.in_ok-push.ensures.items
@@ -72,7 +72,7 @@ returns-then-accepts-clause-turn c = λ before T.
 
 pub returns-else-accepts-clause-turn : goal.returns-else-accepts-clause-turn
 returns-else-accepts-clause-turn c = λ before T.
-    let known = (goal.at.returns-else-accepts-clause-turn c).In_ok-push in (
+    let known = (goal.at.returns-else-accepts-clause-turn c).After-opened-self in (
       down-course T c.in-Some.is _ c.opened-self.new.frames _ (made known) (opened known)
           c.opened-self.ensures.place c.opened-self.ensures.frames c.push.new.self c.in_ok-push.ensures.items
           c.args.self.now.alloc c.args.self.now.store c.requires.store,
@@ -82,10 +82,10 @@ returns-else-accepts-clause-turn c = λ before T.
 
 pub returns-then-accepts-clause-less : goal.returns-then-accepts-clause-less
 returns-then-accepts-clause-less c = λ before T.
-    let known = (goal.at.returns-then-accepts-clause-less c).In_ok-push in
+    let known = (goal.at.returns-then-accepts-clause-less c).After-opened-self in
     down-less T c.in-Some.is _ _ _ (made known) (opened known) c.push.new.self.items c.in_ok-push.ensures.items
 
 pub returns-else-accepts-clause-less : goal.returns-else-accepts-clause-less
 returns-else-accepts-clause-less c = λ before T.
-    let known = (goal.at.returns-else-accepts-clause-less c).In_ok-push in
+    let known = (goal.at.returns-else-accepts-clause-less c).After-opened-self in
     down-less T c.in-Some.is _ _ _ (made known) (opened known) c.push.new.self.items c.in_ok-push.ensures.items

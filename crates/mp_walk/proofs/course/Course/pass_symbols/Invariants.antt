@@ -3,15 +3,13 @@ use Rattle.mp_walk.specs.CourseView.{IsCourse, course_to_come}
 use Rattle.mp_walk.specs.CourseVisits.{course_visits}
 use Rattle.mp_walk.proofs.course.Course.pass_symbols.Given as goal
 
--- the same is to come, and where it is read nothing has changed
-abbrev pub invariant-loop-self : goal.invariant-loop-self
-invariant-loop-self l = record {
-  course : IsCourse l.self;
-  to_come : course_to_come l.self ≡ course_to_come l.initial.self;
-  visits : course_visits l.self ≤ course_visits l.initial.self;
-  kept : (l.self.set ≡ l.initial.self.set) × (l.self.place ≡ l.initial.self.place)
-      × (l.self.frames ≡ l.initial.self.frames);
+-- the same is to come from the target on
+abbrev pub invariant-loop-target : goal.invariant-loop-target
+invariant-loop-target l = record {
+  course : IsCourse (record l.self { target = l.target });
+  to_come : course_to_come (record l.self { target = l.target }) ≡ course_to_come l.self;
+  visits : course_visits (record l.self { target = l.target }) ≤ course_visits l.self;
 }
 
-abbrev pub decreases-loop-self : goal.decreases-loop-self
-decreases-loop-self l = course_visits l.self
+abbrev pub decreases-loop-target : goal.decreases-loop-target
+decreases-loop-target l = course_visits (record l.self { target = l.target })

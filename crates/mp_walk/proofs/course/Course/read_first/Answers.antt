@@ -16,19 +16,20 @@ use Rattle.mp_walk.proofs.ReadingLaws.{single-token}
 use Rattle.mp_walk.proofs.SpentLaws.{passed-course, passed-to_come, passed-less}
 use Rattle.mp_walk.proofs.StepLaws.{step-closed}
 use Rattle.mp_walk.proofs.course.Course.read_first.Goals as goal
-use Rattle.mp_walk.proofs.course.Course.read_first.Goals.{After-index, After-len}
+use Rattle.mp_walk.proofs.course.Course.read_first.Goals.{After-index-frame, After-len}
 
 -- the frame of the place is there
-at : (c : After-index) → slice_get c.args.self.now.frames.items c.in-Some-place.place ≡ Some c.index.result.now
+at : (c : After-index-frame)
+    → slice_get c.args.self.now.frames.items c.in-Some-place.place ≡ Some c.index-frame.result.now
 at c =
     let fs = c.args.self.now.frames.items in
-    index-at fs c.in-Some-place.place c.index.result.now
-    (subst (IsPlaceBelow (length fs)) c.in-Some-place.is c.requires.course.place) c.index.ensures
+    index-at fs c.in-Some-place.place c.index-frame.result.now
+    (subst (IsPlaceBelow (length fs)) c.in-Some-place.is c.requires.course.place) c.index-frame.ensures
 
 -- the instruction that is to be tried is there, and its place is open
-is_first : (c : After-index) → IsFirst c.args.self.now c.args.number c.mark-mark.result
-    (plain_instr c.in-Some.instr.now) (open_of c.args.self.now.set.table.now c.index.result.now)
-    (opens c.args.self.now.set.table.now c.args.self.now.frames.items c.index.result.now.outer)
+is_first : (c : After-index-frame) → IsFirst c.args.self.now c.args.number c.mark-mark.result
+    (plain_instr c.in-Some.instr.now) (open_of c.args.self.now.set.table.now c.index-frame.result.now)
+    (opens c.args.self.now.set.table.now c.args.self.now.frames.items c.index-frame.result.now.outer)
 is_first c =
     let self = c.args.self.now in
     let t = self.set.table.now in
@@ -39,11 +40,12 @@ is_first c =
       marks = c.mark-mark.ensures;
       held = c.instr.ensures ∙ ap (option_map (λ j. plain_instr j.now)) c.in-Some.is;
       is = ap (opens t fs) c.in-Some-place.is
-          ∙ opens-is t self.set.sig.now fs c.requires.course.frames c.in-Some-place.place c.index.result.now (at c);
+          ∙ opens-is t self.set.sig.now fs c.requires.course.frames c.in-Some-place.place c.index-frame.result.now
+          (at c);
     }
 
 -- the token before its first way, and after it
-abbrev before : After-index → Read
+abbrev before : After-index-frame → Read
 before c =
     let self = c.args.self.now in
     read_of self.set.table.now self.frames.items self.trail (new_level self c.args.number c.mark-mark.result)
@@ -56,8 +58,8 @@ taken c = record (new_level c.args.self.now c.args.number c.mark-mark.result) {
 
 -- its first way is taken
 is_taken : (c : After-len) → IsFirstTaken c.args.self.now c.args.number c.mark-mark.result
-    (plain_instr c.in-Some.instr.now) (open_of c.args.self.now.set.table.now c.index.result.now)
-    (opens c.args.self.now.set.table.now c.args.self.now.frames.items c.index.result.now.outer)
+    (plain_instr c.in-Some.instr.now) (open_of c.args.self.now.set.table.now c.index-frame.result.now)
+    (opens c.args.self.now.set.table.now c.args.self.now.frames.items c.index-frame.result.now.outer)
     c.in-Some-way_from.way c.way_from.new.trail (taken c)
 is_taken c =
     let self = c.args.self.now in
@@ -68,7 +70,7 @@ is_taken c =
       lies = c.in-Some-way_from.ensures.kept;
       valid = c.in-Some-way_from.ensures.valid;
       first = c.in-Some-way_from.ensures.way
-          (opens self.set.table.now self.frames.items c.index.result.now.outer);
+          (opens self.set.table.now self.frames.items c.index-frame.result.now.outer);
       one = record { instr = refl; place = refl; frames = many; mark = refl };
       more = more;
       none = refl;
@@ -100,35 +102,35 @@ returns-in_default-place-clause-less c =
 
 pub way_from-requires-clause-frame : goal.way_from-requires-clause-frame
 way_from-requires-clause-frame c =
-    (c.requires.course.frames c.in-Some-place.place c.index.result.now
-    (at (goal.at.way_from-requires-clause-frame c).After-index)).frame
+    (c.requires.course.frames c.in-Some-place.place c.index-frame.result.now
+    (at (goal.at.way_from-requires-clause-frame c).After-index-frame)).frame
 
 pub way_from-requires-clause-ordered : goal.way_from-requires-clause-ordered
 way_from-requires-clause-ordered c =
-    (c.requires.course.frames c.in-Some-place.place c.index.result.now
-    (at (goal.at.way_from-requires-clause-ordered c).After-index)).ordered
+    (c.requires.course.frames c.in-Some-place.place c.index-frame.result.now
+    (at (goal.at.way_from-requires-clause-ordered c).After-index-frame)).ordered
 
 pub way_from-requires-clause-sound : goal.way_from-requires-clause-sound
-way_from-requires-clause-sound c = first-sound (is_first (goal.at.way_from-requires-clause-sound c).After-index)
+way_from-requires-clause-sound c = first-sound (is_first (goal.at.way_from-requires-clause-sound c).After-index-frame)
 
 pub way_from-requires-clause-single : goal.way_from-requires-clause-single
 way_from-requires-clause-single c =
     single-token c.in-Some.instr.now.token c.in_default-token.not-Comm
 
 pub way_from-requires-clause-held : goal.way_from-requires-clause-held
-way_from-requires-clause-held c = first-held (is_first (goal.at.way_from-requires-clause-held c).After-index)
+way_from-requires-clause-held c = first-held (is_first (goal.at.way_from-requires-clause-held c).After-index-frame)
 
 pub way_from-requires-clause-spare : goal.way_from-requires-clause-spare
-way_from-requires-clause-spare c = first-spare (is_first (goal.at.way_from-requires-clause-spare c).After-index)
+way_from-requires-clause-spare c = first-spare (is_first (goal.at.way_from-requires-clause-spare c).After-index-frame)
 
 pub returns-in_default-way_from-clause-turn : goal.returns-in_default-way_from-clause-turn
 returns-in_default-way_from-clause-turn c =
     let self = c.args.self.now in
     let n = c.args.number in
     let i = plain_instr c.in-Some.instr.now in
-    let first = is_first (goal.at.returns-in_default-way_from-clause-turn c).After-index in
+    let first = is_first (goal.at.returns-in_default-way_from-clause-turn c).After-index-frame in
     let nothing = first-none first (c.in_default-way_from.ensures.way
-    (opens self.set.table.now self.frames.items c.index.result.now.outer)) in
+    (opens self.set.table.now self.frames.items c.index-frame.result.now.outer)) in
     subst (λ u.
     let d : Course = record self { trail = u; target = i.over } in
     IsCourse d × (course_to_come d ≡ course_to_come self)) (sym c.in_default-way_from.ensures.kept) (
@@ -141,21 +143,21 @@ returns-in_default-way_from-clause-less c =
     let self = c.args.self.now in
     let n = c.args.number in
     let i = plain_instr c.in-Some.instr.now in
-    let first = is_first (goal.at.returns-in_default-way_from-clause-less c).After-index in
+    let first = is_first (goal.at.returns-in_default-way_from-clause-less c).After-index-frame in
     let nothing = first-none first (c.in_default-way_from.ensures.way
-    (opens self.set.table.now self.frames.items c.index.result.now.outer)) in
+    (opens self.set.table.now self.frames.items c.index-frame.result.now.outer)) in
     subst (λ u. course_visits (record self { trail = u; target = i.over }) < course_visits self)
     (sym c.in_default-way_from.ensures.kept) (passed-less self first.course n first.target i first.held nothing)
 
 pub go_down-requires-clause-taken : goal.go_down-requires-clause-taken
 go_down-requires-clause-taken c =
     let known = goal.at.go_down-requires-clause-taken c in
-    (before known.After-index, first-taken (is_first known.After-index) (is_taken known.After-len))
+    (before known.After-index-frame, first-taken (is_first known.After-index-frame) (is_taken known.After-len))
 
 pub returns-clause-turn : goal.returns-clause-turn
 returns-clause-turn c =
     let known = goal.at.returns-clause-turn c in
-    let first = is_first known.After-index in
+    let first = is_first known.After-index-frame in
     let taken = is_taken known.After-len in
     by_result (first-taken first taken) c.go_down.result c.go_down.new.self (course_to_come c.args.self.now)
     (first-to_come first taken) c.go_down.ensures.turn
@@ -163,7 +165,7 @@ returns-clause-turn c =
 pub returns-clause-less : goal.returns-clause-less
 returns-clause-less c =
     let known = goal.at.returns-clause-less c in
-    let first = is_first known.After-index in
+    let first = is_first known.After-index-frame in
     let taken = is_taken known.After-len in
     fewer_by_result (first-taken first taken) c.go_down.result (course_visits c.go_down.new.self)
     (course_visits c.args.self.now) (first-visits first taken) c.go_down.ensures.less
