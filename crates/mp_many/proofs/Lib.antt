@@ -12,12 +12,14 @@ pub mod TreeLaws
 mod CodeLaws
 pub mod WalkableLaws
 mod TreeExamples
+mod GatherLaws
 pub mod ConstantLaws
 pub mod WalkTables
 pub mod WalkConstantLaws
 pub mod OnceLaws
 mod ItemLaws
 mod WalkLaws
+mod ReadNameLaws
 mod RuleNameLaws
 mod SubstLaws
 pub mod AllPairsLaws

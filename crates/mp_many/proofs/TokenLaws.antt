@@ -1,13 +1,14 @@
 -- Tokens that stand in the patterns of rules: their numbers, their digests, and their lists.
 use Rattle.std.proofs.Common.{◌≡◌, ◌<◌, ℕ, ◌+◌, List, [], ◌∷◌, ◌++◌, map, length, take, drop}
-use Rattle.std.proofs.Common.{get_or, refl, ap, sym, ◌∙◌, arith, append_assoc}
-use Rattle.std.specs.Prelude.{flat_map, sum}
+use Rattle.std.proofs.Common.{get_or, refl, ap, sym, ◌∙◌, arith, append_assoc, Bool, true, false, eq-eqb}
+use Rattle.std.specs.Prelude.{flat_map, not, nat_eq, sum, Option}
 use Rattle.std.proofs.Math.Seq.{drop-append_seam, take-append_seam}
 use Rattle.std.proofs.lemmas.List.{drop-drop, length-append}
 use Rattle.std.proofs.lemmas.List.Sums.{sum_by-cons}
-use Rattle.mp_pattern.specs.NetTokens.{renamed, all_renamed}
+use Rattle.mp_pattern.specs.NetTokens.{NetToken, renamed, all_renamed, same_token, wild_token}
+use Rattle.mp_pattern.specs.NetTokenLaws.{same_token-is}
 use Rattle.mp_pattern.specs.PatternTree.{Pattern, symbol_pattern, app_pattern, wild_pattern, Patterns, no_patterns}
-use Rattle.mp_pattern.specs.PatternTree.{more_patterns}
+use Rattle.mp_pattern.specs.PatternTree.{kind, more_patterns}
 use Rattle.mp_many.specs.Digest.{mixed, pattern_digest, all_digest}
 use Rattle.mp_many.specs.TokenView.{cut}
 use Rattle.mp_many.proofs.RowLaws.{drop-next}
@@ -59,3 +60,21 @@ cut-step counts ks l lists all i start h e is =
     append_assoc lists (l ∷ []) (cut rest (drop (start + n) ks))
     ∙ (λ j. lists ++ (e j ∷ cut rest (sym (drop-drop n start ks) j)))
     ∙ ap (λ ms. lists ++ cut ms (drop start ks)) (sym (drop-next counts i 0 h)) ∙ is
+
+-- the kind of a wildcard that has one
+abbrev kind_in : NetToken → ℕ
+kind_in (wild_token (kind a) x) = a
+kind_in k = 0
+
+-- wildcards of different kinds are different tokens
+pub kinds-apart : (j k : NetToken) (own others : ℕ × Option ℕ) → j ≡ wild_token (kind own.0) own.1
+    → k ≡ wild_token (kind others.0) others.1 → not (nat_eq own.0 others.0) ≡ true → same_token j k ≡ false
+kinds-apart j k own others e f h = at (same_token j k) (same_token-is j k)
+  where
+    at : (b : Bool) → (b ≡ true → j ≡ k) → b ≡ false
+    at false is = refl
+    at true is =
+        let same : own.0 ≡ others.0 = ap kind_in (sym e ∙ is refl ∙ f) in
+        let alike : nat_eq own.0 others.0 ≡ true = eq-eqb own.0 others.0 same in
+        let wrong : not true ≡ true = ap not (sym alike) ∙ h in
+        cc

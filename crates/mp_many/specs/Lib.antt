@@ -6,7 +6,9 @@ pub mod Groups
 pub mod Marks
 pub mod GroupView
 pub mod Many
+pub mod RuleNames
 pub mod WalkConstants
+pub mod Gathered
 pub mod ManyCode
 pub mod ManyView
 pub mod RuleWalk

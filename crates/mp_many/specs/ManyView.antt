@@ -21,7 +21,7 @@ pub record IsMany (m : Inside) : Type 0 where
   pub tree : m.code.instrs ≡ tree_of m.sig.now m.rules.now
   pub ready : IsCode m.sig.now m.code
   pub few : length m.code.instrs < 2 ^ 32
-  pub names : m.names.items ≡ map (λ r. variables r.pattern) m.rules.now
+  pub names : m.names ≡ map (λ r. variables r.pattern) m.rules.now
 
 -- a state as the instruction that it is
 abbrev pub state_view : State → Instr

@@ -4,8 +4,9 @@ ghost use Rattle.mp_pattern.specs.NetTokenView.{net_token};
 ghost use Rattle.mp_walk.specs.CodeConstants.{code_constants, token_constants};
 ghost use Rattle.mp_many.specs.WalkConstants.{AreWalkConstants};
 
+use crate::gather::constants_of;
 use crate::many::Many;
-use mp_pattern::{NetToken, constants};
+use mp_pattern::NetToken;
 use mp_term::{Memory, Terms};
 use mp_walk::Code;
 use std::alloc::Global;
@@ -43,6 +44,6 @@ impl<'a> Many<'a> {
         if have_none(self.code(), self.states()) {
             return Ok(Terms::new(alloc));
         }
-        constants(alloc, self.rules())
+        constants_of(alloc, self.rules())
     }
 }

@@ -5,6 +5,7 @@
 mod all;
 mod constants;
 mod digest;
+mod gather;
 mod group;
 mod laws;
 mod lists;

@@ -7,6 +7,7 @@ ghost use Rattle.mp_pattern.specs.View.{pattern_tree};
 ghost use Rattle.mp_many.specs.Prefixes.{token_lists};
 ghost use Rattle.mp_many.specs.TokenView.{cut, read_token};
 
+use crate::names::RuleNames;
 use crate::token::{Token, TokenList};
 use mp_pattern::{Pattern, Rule, variable_number};
 use mp_term::{Memory, Names, Signature};
@@ -58,7 +59,7 @@ pub(crate) fn rule_tokens<'a>(
     alloc: Global,
     sig: &Signature,
     rules: &'a [Rule],
-    names: &'a [Names],
+    names: &'a RuleNames,
 ) -> Result<RuleTokens<'a>, Memory>
     requires { names.now ≡ map (λ r. variables r.pattern) (map rule_tree rules.now) }
     ensures tokens { IfOk result (λ r. map read_token r.tokens.items
@@ -69,7 +70,7 @@ pub(crate) fn rule_tokens<'a>(
     let mut counts = Vec::with_capacity(alloc, rules.len())?;
     for (index, rule) in rules.iter().enumerate() {
         let before = tokens.len();
-        push_tokens(sig, &names[index], &rule.pattern, &mut tokens)?;
+        push_tokens(sig, names.get(index), &rule.pattern, &mut tokens)?;
         counts.push(tokens.len() - before)?;
     }
     Ok(RuleTokens { tokens, counts })

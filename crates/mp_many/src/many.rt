@@ -7,7 +7,7 @@ ghost use Rattle.mp_many.specs.Laid.{tree_of};
 ghost use Rattle.mp_many.specs.ManyView.{state_view};
 ghost use Rattle.mp_many.specs.Prefixes.{prefixes, IsState};
 
-use crate::names::names_of;
+use crate::names::{RuleNames, names_of};
 use crate::tree::tree_of;
 use mp_pattern::{NetToken, Rules};
 use mp_term::{Memory, Names, Signature};
@@ -21,7 +21,7 @@ use std::marker::Model;
 pub struct Many<'a> {
     sig: &'a Signature,
     rules: &'a Rules,
-    names: Vec<Names>,
+    names: RuleNames,
     code: Code,
 }
 
@@ -111,7 +111,7 @@ impl<'a> Many<'a> {
         ensures names { IfSome (slice_get self.now.rules rule) (λ r. result.now ≡ variables r.pattern) }
         ensures sound { AreSoundRules self.now.sig self.now.rules }
     {
-        &self.names[rule as usize]
+        self.names.get(rule as usize)
     }
 
     /// The signature that `build` was given.

@@ -13,7 +13,8 @@ pub(crate) fn marks_for(alloc: Global, tokens: usize) -> Result<Vec<bool>, Memor
     if tokens <= FEW {
         return Ok(Vec::new(alloc));
     }
-    let marks = Vec::from_elem(alloc, false, tokens.saturating_mul(8))?;
+    // An odd number of them, by which digests that end alike are told apart.
+    let marks = Vec::from_elem(alloc, false, tokens.saturating_mul(16) | 1)?;
     Ok(marks)
 }
 

@@ -1,7 +1,8 @@
 //! The tokens of the patterns of rules, read where they stand.
-ghost use Rattle.std.specs.Prelude.{◌≡◌, true, length, map, slice_get, IfOk, IsTrue, option_map};
-ghost use Rattle.mp_pattern.specs.NetTokens.{same_token};
+ghost use Rattle.std.specs.Prelude.{◌≡◌, true, false, length, map, slice_get, IfOk, IfSome, IsTrue, option_map};
+ghost use Rattle.mp_pattern.specs.NetTokens.{same_token, wild_token};
 ghost use Rattle.mp_pattern.specs.NetTokenView.{net_token};
+ghost use Rattle.mp_pattern.specs.PatternTree.{kind};
 ghost use Rattle.mp_many.specs.TokenView.{read_token};
 
 use mp_pattern::{NetToken, Pattern, Shape, renamed, wild_token};
@@ -88,7 +89,7 @@ pub(crate) fn to_net_token(alloc: Global, token: &Token<'_>) -> Result<NetToken,
 }
 
 // The tokens are equal, as is told at once of all but applications of commutative operations and wildcards other than
-// dots.
+// dots and those of kinds.
 pub(crate) fn is_plainly_same(token: &Token<'_>, other: &Token<'_>) -> bool
     ensures { IsTrue result → same_token (read_token token.now) (read_token other.now) ≡ true }
 {
@@ -97,8 +98,32 @@ pub(crate) fn is_plainly_same(token: &Token<'_>, other: &Token<'_>) -> bool
         (Token::Enter(f), Token::Enter(g)) => *f == *g,
         (Token::Leave(f), Token::Leave(g)) => *f == *g,
         (Token::Wild(Shape::Dot, m), Token::Wild(Shape::Dot, n)) => *m == *n,
+        (Token::Wild(Shape::Kind(k), m), Token::Wild(Shape::Kind(l), n)) => *k == *l && *m == *n,
         _ => false,
     }
+}
+
+// The numbers of the kind and of the variable of a wildcard of a kind.
+fn kind_of(token: &Token<'_>) -> Option<(u32, Option<u32>)>
+    ensures { IfSome result (λ k. read_token token.now ≡ wild_token (kind k.0) k.1) }
+{
+    match token {
+        Token::Wild(Shape::Kind(kind), number) => Some((kind.0, *number)),
+        _ => None,
+    }
+}
+
+// The tokens are wildcards of different kinds.
+fn are_of_other_kinds(token: &Token<'_>, other: &Token<'_>) -> bool
+    ensures { IsTrue result → same_token (read_token token.now) (read_token other.now) ≡ false }
+{
+    let Some(own) = kind_of(token) else {
+        return false;
+    };
+    let Some(others) = kind_of(other) else {
+        return false;
+    };
+    own.0 != others.0
 }
 
 // The tokens are equal. `Memory` comes where there is no room to compare applications of a commutative operation.
@@ -107,6 +132,9 @@ pub(crate) fn is_same(alloc: Global, token: &Token<'_>, other: &Token<'_>) -> Re
 {
     if is_plainly_same(token, other) {
         return Ok(true);
+    }
+    if are_of_other_kinds(token, other) {
+        return Ok(false);
     }
     Ok(to_net_token(alloc, token)? == to_net_token(alloc, other)?)
 }

@@ -7,10 +7,11 @@ ghost use Rattle.mp_many.specs.Laid.{laid, numbered_from, tree_of};
 ghost use Rattle.mp_many.specs.Prefixes.{token_count};
 
 use crate::lists::{cut, rule_tokens};
+use crate::names::RuleNames;
 use crate::states::push_states;
 use crate::token::TokenList;
 use mp_pattern::Rule;
-use mp_term::{Memory, Names, Signature};
+use mp_term::{Memory, Signature};
 use mp_walk::Instrs;
 use std::alloc::Global;
 
@@ -44,7 +45,7 @@ pub(crate) fn tree_of(
     alloc: Global,
     sig: &Signature,
     rules: &[Rule],
-    names: &[Names],
+    names: &RuleNames,
 ) -> Result<Instrs, Memory>
     requires few { length rules.now < 2 ^ 32 }
     requires names { names.now ≡ map (λ r. variables r.pattern) (map rule_tree rules.now) }

@@ -1,9 +1,12 @@
 use Rattle.std.proofs.Common.{◌≡◌, ◌∙◌, ◌+◌, ◌-◌, ◌++◌, [], ◌∷◌, List, drop, length, map, sym, ap, arith, append_assoc}
 use Rattle.std.specs.Prelude.{flat_map}
 use Rattle.std.proofs.lemmas.List.{length-append, length-map}
+use Rattle.std.proofs.lemmas.Option.{get_or_from_slice_get}
 use Rattle.mp_term.proofs.ListLaws.{drop-item}
+use Rattle.mp_pattern.specs.Admission.{Rule}
 use Rattle.mp_pattern.specs.NetTokens.{NetToken, tokens, tokens_of}
 use Rattle.mp_pattern.specs.RuleView.{rule_tree}
+use Rattle.mp_pattern.specs.Variables.{variables}
 use Rattle.mp_pattern.specs.View.{pattern_tree}
 use Rattle.mp_pattern.specs.declared.rule.Rule as code
 use Rattle.mp_many.specs.Prefixes.{token_lists}
@@ -11,10 +14,21 @@ use Rattle.mp_many.specs.TokenView.{read_token}
 use Rattle.mp_many.proofs.RuleNameLaws.{names-at}
 use Rattle.mp_many.proofs.lists.rule_tokens.Goals as goal
 
+pub get-requires : goal.get-requires
+get-requires c =
+    let rules = map rule_tree c.args.rules.now in
+    omega (
+      arith,
+      c.loop-index-test.true,
+      ap length c.requires,
+      length-map rules (λ (r : Rule). variables r.pattern),
+      length-map c.args.rules.now rule_tree,
+    )
+
 pub overflow_sub-len : goal.overflow_sub-len
 overflow_sub-len c =
     let old = map read_token c.loop-index.tokens.items in
-    let own = tokens c.args.sig.now c.index-names-index.result (pattern_tree c.index-rules-index.result.pattern) in
+    let own = tokens c.args.sig.now c.get.result.now (pattern_tree c.index-rules-index.result.pattern) in
     omega (
       arith,
       c.len.ensures,
@@ -38,8 +52,9 @@ loop-index-preserved c =
     let lists : List code.Rule → List (List NetToken) = λ rs. token_lists sig (map rule_tree rs) in
     let rest = lists (drop (i + 1) rules) in
     let split = drop-item rules i rule c.loop-index-test.true c.index-rules-index.is in
-    let named = names-at rules c.args.names.now i c.index-names-index.result rule c.loop-index-test.true c.requires
-    c.index-names-index.is c.index-rules-index.is in
+    let held = sym (get_or_from_slice_get c.args.names.now i c.get.result.now c.get.result.now c.get.ensures) in
+    let named = names-at rules c.args.names.now i c.get.result.now rule c.loop-index-test.true c.requires held
+    c.index-rules-index.is in
     let pushed : map read_token c.push_tokens.new.out.items ≡ old ++ own =
     c.in_ok-push_tokens.ensures ∙ ap (λ xs. old ++ tokens sig xs p) named in
     let size : c.len.result - c.len-before.result ≡ length own = omega (

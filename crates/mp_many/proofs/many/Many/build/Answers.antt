@@ -17,7 +17,7 @@ tree_of-requires-clause-few c = omega (
 
 pub tree_of-requires-clause-names : goal.tree_of-requires-clause-names
 tree_of-requires-clause-names c =
-    c.deref.ensures.value ∙ c.in_ok-names.ensures
+    c.in_ok-names.ensures
     ∙ ap (map (λ r. variables r.pattern)) (c.as_slice.ensures ∙ sym c.as_slice-2.ensures)
 
 pub new-requires : goal.new-requires

@@ -16,7 +16,7 @@ have_none-requires c =
 pub returns : goal.returns
 returns c =
     let m = c.args.self.now in
-    IfOk-weaker c.constants.result (IsListing tree_cmp (IsConstantOf c.rules.result.now)) (AreWalkConstants m)
+    IfOk-weaker c.constants_of.result (IsListing tree_cmp (IsConstantOf c.rules.result.now)) (AreWalkConstants m)
     (λ ts l. constants-rules m ts c.rules.ensures.sound
     (subst (λ rs. IsListing tree_cmp (IsConstantOf rs) ts) c.rules.ensures.rules l))
-    c.constants.ensures
+    c.constants_of.ensures
