@@ -14,7 +14,6 @@ use Rattle.mp_command.specs.Answers.{Acts, GoesOn}
 use Rattle.mp_command.specs.Endings.{told_line, told_status}
 use Rattle.mp_command.specs.Outcome.{Outcome, refused, written_before}
 use Rattle.mp_command.specs.declared.ending.Told.{Told}
-use Rattle.mp_command.specs.declared.ending.Told.TheVariants as told
 use Rattle.mp_command.specs.declared.ending.Ending.{Ending}
 use Rattle.mp_command.specs.declared.ending.Ending.TheVariants as ending
 
