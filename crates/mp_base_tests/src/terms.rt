@@ -44,6 +44,8 @@ const SPELLINGS: &[(&str, bool, bool)] = &[
     ("", false, false),
     ("Zz09", true, false),
     ("a_b", false, false),
+    ("14bytesInPlace", true, false),
+    ("15bytesInABoxxx", true, false),
     (
         "aaaaaaaaaaaaaaaaaaaaaaaaaaaaaaaaaaaaaaaaaaaaaaaaaaaaaaaaaaaaaaaa",
         true,
@@ -60,9 +62,14 @@ const SPELLINGS: &[(&str, bool, bool)] = &[
     ("->>", false, true),
 ];
 
+// Whether the text is a name, and that of its copy too.
+fn is_copied(alloc: Global, text: &[u8]) -> bool {
+    Name::new(alloc, text).is_ok_and(|name| name.copy(alloc).is_ok_and(|copy| copy.bytes() == text))
+}
+
 // Whether the text is a name, and whether it is a sign.
 fn is_spelt(alloc: Global, text: &[u8], is_name: bool, is_sign: bool) -> bool {
-    Name::new(alloc, text).is_ok() == is_name && Sign::new(alloc, text).is_ok() == is_sign
+    is_copied(alloc, text) == is_name && Sign::new(alloc, text).is_ok() == is_sign
 }
 
 #[test]

@@ -8,6 +8,7 @@ pub mod Order
 pub mod OrderLaws
 pub mod Sorting
 pub mod Names
+pub mod NameView
 pub mod Signature
 pub mod SigCode
 pub mod Normal

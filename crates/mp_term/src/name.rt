@@ -6,34 +6,84 @@ ghost use Rattle.std.specs.Cmp.{partial_equiv_from_equiv, po, eq_by_cmp_equiv};
 ghost use Rattle.std.specs.Cmp.Lexicographic.{slice_cmp};
 ghost use Rattle.std.proofs.lemmas.Cmp.{nat_list_cmp_total};
 ghost use Rattle.std.specs.List.{list_any, list_all};
+ghost use Rattle.mp_term.specs.NameView.{name_bytes, IsWithin};
 ghost use Rattle.mp_term.specs.Names.{is_name, is_name_byte, name_set, names_ascend};
 
 use crate::limits::MAX_NAME_BYTES;
 use crate::memory::Memory;
-use smallvec::SmallVec;
 use std::alloc::{AllocError, Global};
 use std::cmp::Ordering;
 use std::marker::Model;
 
 // A name of so many bytes, or fewer, takes no allocation.
-const INLINE_BYTES: usize = 16;
+const INLINE_BYTES: usize = 14;
+
+// The bytes of a name: few stand in the value itself, with their count, and more in an allocation.
+#[derive(Drop)]
+enum Bytes {
+    Short([u8; INLINE_BYTES], u8),
+    Long(Box<Vec<u8>>),
+}
+
+impl Bytes {
+    // A copy of the bytes.
+    fn new(alloc: Global, bytes: &[u8]) -> Result<Bytes, AllocError>
+        ensures bytes { IfOk result (λ b. name_bytes b ≡ bytes.now) }
+        ensures within { IfOk result IsWithin }
+    {
+        if bytes.len() <= INLINE_BYTES {
+            let mut short = [0; INLINE_BYTES];
+            short[..bytes.len()].copy_from_slice(bytes);
+            return Ok(Bytes::Short(short, bytes.len() as u8));
+        }
+        let long = Vec::from_slice(alloc, bytes)?;
+        Ok(Bytes::Long(Box::new(alloc, long)?))
+    }
+
+    // The bytes as a slice.
+    fn as_slice(&self) -> &[u8]
+        requires { IsWithin self.now }
+        ensures { result.now ≡ name_bytes self.now }
+    {
+        match self {
+            Bytes::Short(short, count) => &short[..*count as usize],
+            Bytes::Long(long) => long.as_slice(),
+        }
+    }
+
+    // The same bytes once more.
+    fn copy(&self, alloc: Global) -> Result<Bytes, AllocError>
+        requires { IsWithin self.now }
+        ensures bytes { IfOk result (λ b. name_bytes b ≡ name_bytes self.now) }
+        ensures within { IfOk result IsWithin }
+    {
+        match self {
+            Bytes::Short(short, count) => Ok(Bytes::Short(*short, *count)),
+            Bytes::Long(long) => Bytes::new(alloc, long.as_slice()),
+        }
+    }
+}
 
 /// A name: 1 to 64 ASCII letters and digits. Contracts see its bytes. Names compare by their bytes.
 #[derive(Drop)]
 pub struct Name {
-    bytes: SmallVec<u8, INLINE_BYTES>,
+    bytes: Bytes,
 }
+
+// Each node of a term or a pattern may hold a name.
+const _: () = prove!(size_of::<Name>() == 16);
 
 impl Model for Name {
     ghost use Rattle.std.specs.Prelude.{ℕ, List};
     ghost use Rattle.std.specs.Prelude.{◌≡◌, true};
     ghost use Rattle.mp_term.specs.Names.{is_name};
+    ghost use Rattle.mp_term.specs.NameView.{name_bytes, IsWithin};
 
     ghost Value = { List ℕ };
 
-    ghost view = { λ n. n.bytes.items };
+    ghost view = { λ n. name_bytes n.bytes };
 
-    ghost invariant = { λ n. is_name n.bytes.items ≡ true };
+    ghost invariant = { λ n. IsWithin n.bytes × (is_name (name_bytes n.bytes) ≡ true) };
 }
 
 /// Why bytes make no name, or no sign.
@@ -103,8 +153,8 @@ impl Name {
         if !is_name(bytes) {
             return Err(NameFault::Spelling);
         }
-        let copy = SmallVec::from_slice(alloc, bytes)?;
-        Ok(Name { bytes: copy })
+        let bytes = Bytes::new(alloc, bytes)?;
+        Ok(Name { bytes })
     }
 
     /// The bytes of the name, which are the spelling of one.
@@ -119,7 +169,7 @@ impl Name {
     pub fn copy(&self, alloc: Global) -> Result<Name, Memory>
         ensures { IfOk result (λ n. n ≡ self.now) }
     {
-        let bytes = SmallVec::from_slice(alloc, self.bytes())?;
+        let bytes = self.bytes.copy(alloc)?;
         Ok(Name { bytes })
     }
 }
