@@ -56,6 +56,19 @@ fn place_of(pieces: &[Piece<'_>], term: &Term) -> Option<usize>
     Some(0)
 }
 
+// Puts a piece in at a place. At the end nothing has to move.
+fn put_piece<'a>(pieces: &mut Vec<Piece<'a>>, place: usize, piece: Piece<'a>) -> Result<(), Memory>
+    requires { place ≤ length pieces.old.items }
+    ensures { OnOk result (pieces.new.items ≡ insert pieces.old.items place piece.entry) }
+{
+    if place == pieces.len() {
+        pieces.push(piece)?;
+    } else {
+        pieces.insert(place, piece)?;
+    }
+    Ok(())
+}
+
 // Adds a piece for the subterm at a place to ascending pieces, if none of them has its term.
 fn add_piece<'a>(
     pieces: &mut Vec<Piece<'a>>,
@@ -74,7 +87,7 @@ fn add_piece<'a>(
 {
     let term = nodes[start].term;
     if let Some(place) = place_of(pieces, term) {
-        pieces.insert(place, Piece { term, start })?;
+        put_piece(pieces, place, Piece { term, start })?;
     }
     Ok(())
 }
