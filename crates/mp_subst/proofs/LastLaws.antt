@@ -121,15 +121,9 @@ are_earlier-take n es m k h i d at v =
     h i d (slice_get-get_or es i d (omega (arith, front, k)) ∙ ap Some same) v
     ∙ ap (λ ds. last_number ds d.var) (sym (take-take i m es (omega (arith, front))))
 
--- the first variables
-pub are_last-take : (ns : List ℕ) (es : List Entry) (k : ℕ) → k ≤ length ns → AreLast ns es → AreLast (take k ns) es
-are_last-take ns es k h l x below =
-    let front : x < k = omega (arith, below, length-take-le k ns h) in
-    get_or-take k ns x 0 front ∙ l x (omega (arith, front, h))
-
-pub are_earlier-less : (m n : ℕ) (es : List Entry) → m ≤ n → AreEarlier n es → AreEarlier m es
-are_earlier-less m n es h l i d at v = l i d at (omega (arith, h, v))
-
 -- no entry
 pub are_last-none : (n : ℕ) → AreLast (replicate n 0) []
 are_last-none n x h = get_or-replicate n x 0 0 (omega (arith, h, length-replicate {A = ℕ} n 0))
+
+pub are_earlier-none : (n : ℕ) → AreEarlier n []
+are_earlier-none n i e at v = cc

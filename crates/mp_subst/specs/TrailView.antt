@@ -75,5 +75,5 @@ pub record IsLaid (t : Inside) : Type 0 where
   pub entries_capacity : t.room ≤ vec_capacity t.entries
   pub ranks_capacity : t.room ≤ vec_capacity t.ranks
   pub rooms : HasRoom 0 t.entries.items t.room
-  pub last : AreLast t.last.items t.entries.items
-  pub earlier : AreEarlier (length t.last.items) t.entries.items
+  pub last : AreLast t.last t.entries.items
+  pub earlier : AreEarlier (length t.last) t.entries.items

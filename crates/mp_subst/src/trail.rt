@@ -9,7 +9,7 @@ ghost use Rattle.mp_subst.specs.TrailView.{entry_value, last_place, IsWithin, Ar
 
 use crate::bound::Bound;
 use crate::subst::{Binding, Bindings, Subst};
-use mp_pattern::{Form, Plan};
+use mp_pattern::{Form, MAX_VARIABLES, Plan};
 use mp_table::{Rank, Table};
 use mp_term::{Memory, OpId};
 use std::alloc::Global;
@@ -39,8 +39,8 @@ pub(crate) struct Entry {
 /// but `new` and `copy` take no memory. Contracts see it as the record `Trail` of `specs/Trail.antt`; the value of a
 /// variable is that of its last entry on the stack.
 // Of the ranks the first `used` are in use: those behind them are of entries that were taken back, and are written
-// over. The number of an entry is its place and one more. `last` has for each of the first variables the number of its
-// last entry, 0 if there is none; variables past its end are looked for on the stack.
+// over. The number of an entry is its place and one more. `last` has for each variable that a pattern may have the
+// number of its last entry, 0 if there is none; variables past its end are looked for on the stack.
 #[derive(Drop)]
 pub struct Trail {
     pub(crate) vars: u32,
@@ -49,7 +49,7 @@ pub struct Trail {
     pub(crate) used: u32,
     pub(crate) entries: Vec<Entry>,
     pub(crate) ranks: Vec<Rank>,
-    pub(crate) last: Vec<u32>,
+    pub(crate) last: [u32; MAX_VARIABLES],
 }
 
 impl Model for Trail {
@@ -169,24 +169,14 @@ fn refill<T: Copy>(list: &mut Vec<T>, items: &[T])
     write_from(list, 0, items);
 }
 
-// The numbers of last entries are kept for so many variables at most.
-const KEPT: u32 = 128;
-
 impl Trail {
     /// A trail whose stack is empty, for that many variables, with a room of so many ranks and entries together: a
     /// binding takes at most two more of it than it has ranks. `Memory` comes where there is no memory for the room.
     pub fn new(alloc: Global, vars: u32, room: u32) -> Result<Trail, Memory>
         ensures { IfOk result (λ t. t ≡ record { vars = vars; room = room; spare = room; stack = [] }) }
     {
-        let Ok(entries) = Vec::with_capacity(alloc, room as usize) else {
-            return Err(Memory);
-        };
-        let Ok(ranks) = Vec::with_capacity(alloc, room as usize) else {
-            return Err(Memory);
-        };
-        let Ok(last) = Vec::from_elem(alloc, 0, vars.min(KEPT) as usize) else {
-            return Err(Memory);
-        };
+        let entries = Vec::with_capacity(alloc, room as usize)?;
+        let ranks = Vec::with_capacity(alloc, room as usize)?;
         Ok(Trail {
             vars,
             room,
@@ -194,7 +184,7 @@ impl Trail {
             used: 0,
             entries,
             ranks,
-            last,
+            last: [0; MAX_VARIABLES],
         })
     }
 
@@ -253,8 +243,7 @@ impl Trail {
     {
         refill(&mut self.entries, &other.entries);
         write_from(&mut self.ranks, 0, &other.ranks[..other.used as usize]);
-        let known = self.last.capacity().min(other.last.len());
-        refill(&mut self.last, &other.last[..known]);
+        self.last = other.last;
         self.vars = other.vars;
         self.spare = other.spare;
         self.used = other.used;

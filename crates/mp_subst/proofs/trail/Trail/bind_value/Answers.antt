@@ -18,14 +18,14 @@ returns-in-Old c =
     subst (λ u. i < length u.stack) c.self.view_is
     (omega (
       arith,
-      subst (λ xs. i < length xs) c.deref-2.ensures.value c.in-Old.ensures.place,
+      subst (λ xs. i < length xs) c.deref.ensures.value c.in-Old.ensures.place,
       length-map es (trail_entry rs),
     )) in
     let e = item_at stack i below in
     let outcomes : AllOutcomes stack c.args.var w (Old i) =
     subst (λ u. AllOutcomes u.stack c.args.var w (Old i)) c.self.view_is
-    (subst (λ xs. AllOutcomes (stack_of rs xs) c.args.var w (Old i)) c.deref-2.ensures.value
-    (subst (λ xs. AllOutcomes (stack_of xs c.deref-2.result.now) c.args.var w (Old i)) c.deref-3.ensures.value
+    (subst (λ xs. AllOutcomes (stack_of rs xs) c.args.var w (Old i)) c.deref.ensures.value
+    (subst (λ xs. AllOutcomes (stack_of xs c.deref.result.now) c.args.var w (Old i)) c.deref-2.ensures.value
     c.in-Old.ensures.value)) in
     record {
       bound = e.0.value;

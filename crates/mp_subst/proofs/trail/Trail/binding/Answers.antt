@@ -8,9 +8,7 @@ use Rattle.mp_subst.proofs.TrailViewLaws.{within-at, last_value-none, last_value
 use Rattle.mp_subst.proofs.trail.Trail.binding.Goals as goal
 
 pub last_place-requires : goal.last_place-requires
-last_place-requires c =
-    subst (λ ns. AreLast ns c.deref-2.result.now) (sym c.deref.ensures.value)
-    (subst (AreLast c.self.inside.last.items) (sym c.deref-2.ensures.value) c.self.invariant.last)
+last_place-requires c = subst (AreLast c.self.inside.last) (sym c.deref.ensures.value) c.self.invariant.last
 
 pub bound_at-requires : goal.bound_at-requires
 bound_at-requires c =
@@ -19,7 +17,7 @@ bound_at-requires c =
     let d = c.index.result.now in
     let i = c.self.invariant in
     let below : c.in-Some.place < length es =
-    subst (λ xs. c.in-Some.place < length xs) c.deref-2.ensures.value c.in-Some.ensures.within in
+    subst (λ xs. c.in-Some.place < length xs) c.deref.ensures.value c.in-Some.ensures.within in
     let within = within-at es c.self.inside.used c.in-Some.place d i.laid below in
     subst (λ xs. IsWithin (length xs) d) (sym c.deref-in-Some.ensures.value)
     (subst (IsWithin (length rs)) (sym c.index.ensures) (within.0, omega (arith, within.1, i.used)))
@@ -29,7 +27,7 @@ returns-in-None-clause-value c =
     let es = c.self.inside.entries.items in
     let rs = c.self.inside.ranks.items in
     let none : last_place es c.args.var ≡ None =
-    sym (c.last_place.ensures.place ∙ ap (λ xs. last_place xs c.args.var) c.deref-2.ensures.value) ∙ c.in-None.is in
+    sym (c.last_place.ensures.place ∙ ap (λ xs. last_place xs c.args.var) c.deref.ensures.value) ∙ c.in-None.is in
     sym (last_value-none rs es c.args.var none) ∙ ap (λ u. last_value u.stack c.args.var) c.self.view_is
 
 pub returns-in-Some-clause-value : goal.returns-in-Some-clause-value
@@ -38,7 +36,7 @@ returns-in-Some-clause-value c =
     let rs = c.self.inside.ranks.items in
     let d = c.index.result.now in
     let some : last_place es c.args.var ≡ Some c.in-Some.place =
-    sym (c.last_place.ensures.place ∙ ap (λ xs. last_place xs c.args.var) c.deref-2.ensures.value) ∙ c.in-Some.is in
+    sym (c.last_place.ensures.place ∙ ap (λ xs. last_place xs c.args.var) c.deref.ensures.value) ∙ c.in-Some.is in
     ap Some (c.bound_at.ensures ∙ ap (λ xs. entry_value xs d) c.deref-in-Some.ensures.value
     ∙ ap (entry_value rs) c.index.ensures)
     ∙ sym (last_value-at rs es c.args.var c.in-Some.place d some).1

@@ -1,7 +1,7 @@
-use Rattle.std.proofs.Common.{◌≡◌, ◌≤◌, ◌<◌, ◌+◌, ◌-◌, ◌++◌, ◌∷◌, [], length, get_or, set}
+use Rattle.std.proofs.Common.{◌≡◌, ◌≤◌, ◌<◌, ◌+◌, ◌-◌, ◌++◌, ◌∷◌, [], length}
 use Rattle.std.proofs.Common.{refl, sym, ap, ◌∙◌, subst, arith}
 use Rattle.std.specs.Prelude.{slice_get, Some}
-use Rattle.std.proofs.lemmas.List.{length-append, length-map, length-set, map_push, with_items_is}
+use Rattle.std.proofs.lemmas.List.{length-append, length-map, map_push}
 use Rattle.mp_subst.specs.declared.trail.Entry.{Entry}
 use Rattle.mp_subst.specs.Trail.{with_entry}
 use Rattle.mp_subst.specs.TrailView.{entry_value, trail_entry, stack_of, IsWithin, Laid, HasRoom, AreLast, AreEarlier}
@@ -14,7 +14,7 @@ invariant_of-self c =
     let t = c.self.inside in
     let es = t.entries.items in
     let rs = t.ranks.items in
-    let ks = t.last.items in
+    let ks = t.last in
     let i = c.self.invariant in
     let x = c.args.var in
     let d = c.index-old.result.now in
@@ -40,13 +40,9 @@ invariant_of-self c =
     let many : length c.push_reserved.new.self.items ≡ length es + 1 = ap length items ∙ length-append es (e ∷ []) in
     let enough : 1 ≤ t.spare = subst (λ u. 1 ≤ u.spare) (sym c.self.view_is) c.requires.room in
     let number : c.len.result + 1 ≡ length es + 1 = ap (λ n. n + 1) (c.len.ensures ∙ t.entries.ok.0) in
-    let value = c.deref_mut.ensures.value in
     let ls = c.set_number-earlier.new.last in
-    let set_is : ls ≡ set ks x (c.len.result + 1) =
-    c.set_number-earlier.ensures.after ∙ ap (λ ms. set ms x (c.len.result + 1)) value in
-    let kept = with_items_is t.last ls (ap length set_is ∙ length-set ks x (c.len.result + 1) ∙ sym t.last.ok.0) in
-    let numbers = numbers-put ks ls es e (c.len.result + 1) number set_is
-    (c.set_number-earlier.ensures.before ∙ ap (λ ms. get_or ms x 0) value) i.last i.earlier in
+    let numbers = numbers-put ks ls es e (c.len.result + 1) number c.set_number-earlier.ensures.after
+    c.set_number-earlier.ensures.before i.last i.earlier in
     record {
       laid = subst (λ xs. Laid xs t.used) (sym items)
           (laid-put es t.used t.used e i.laid refl (omega arith) within);
@@ -57,10 +53,8 @@ invariant_of-self c =
       ranks_capacity = i.ranks_capacity;
       rooms = subst (λ xs. HasRoom 0 xs t.room) (sym items)
           (room-put 0 es t.room e i.rooms (omega (arith, i.entries_room)) (omega (arith, i.ranks_room)));
-      last = subst (λ ms. AreLast ms c.push_reserved.new.self.items) (sym kept)
-          (subst (AreLast ls) (sym items) numbers.0);
-      earlier = subst (λ ms. AreEarlier (length ms) c.push_reserved.new.self.items) (sym kept)
-          (subst (AreEarlier (length ls)) (sym items) numbers.1);
+      last = subst (AreLast ls) (sym items) numbers.0;
+      earlier = subst (AreEarlier (length ls)) (sym items) numbers.1;
     }
 
 pub returns : goal.returns

@@ -1,6 +1,6 @@
 use Rattle.std.proofs.Common.{◌≡◌, ◌≤◌, ◌<◌, ℕ, length, take, get_or, sym, ap, ◌∙◌, subst, arith}
 use Rattle.std.specs.Prelude.{slice_get, option_map, Some, None}
-use Rattle.std.proofs.lemmas.List.{length-take-le, length-map, take-map, with_items_is}
+use Rattle.std.proofs.lemmas.List.{length-take-le, length-map, take-map}
 use Rattle.std.proofs.lemmas.Option.{slice_get-get_or, slice_get-map}
 use Rattle.mp_subst.specs.Trail.{cut, spare_at, GoesWith}
 use Rattle.mp_subst.specs.TrailView.{trail_entry, stack_of, trail_view, Laid, HasRoom, AreLast, AreEarlier}
@@ -11,13 +11,11 @@ use Rattle.mp_subst.proofs.trail.Trail.undo.Goals as goal
 
 pub take_back-requires-clause-last : goal.take_back-requires-clause-last
 take_back-requires-clause-last c =
-    subst (λ ns. AreLast ns c.deref.result.now) (sym c.deref_mut.ensures.value)
-    (subst (AreLast c.self.inside.last.items) (sym c.deref.ensures.value) c.self.invariant.last)
+    subst (AreLast c.self.inside.last) (sym c.deref.ensures.value) c.self.invariant.last
 
 pub take_back-requires-clause-earlier : goal.take_back-requires-clause-earlier
 take_back-requires-clause-earlier c =
-    subst (λ ns. AreEarlier (length ns) c.deref.result.now) (sym c.deref_mut.ensures.value)
-    (subst (AreEarlier (length c.self.inside.last.items)) (sym c.deref.ensures.value) c.self.invariant.earlier)
+    subst (AreEarlier (length c.self.inside.last)) (sym c.deref.ensures.value) c.self.invariant.earlier
 
 pub invariant_of-self : goal.invariant_of-self
 invariant_of-self c =
@@ -34,9 +32,6 @@ invariant_of-self c =
     let many : length c.truncate.new.self.items ≡ m = ap length entries ∙ length-take-le m es (omega (arith, h)) in
     let spare : d.spare ≡ (get_or es m d).spare = ap (λ e. e.spare) at in
     let before : d.before ≡ (get_or es m d).before = ap (λ e. e.before) at in
-    let ns = c.take_back.new.last in
-    let count : length ns ≡ length t.last.items = c.take_back.ensures.count ∙ ap length c.deref_mut.ensures.value in
-    let kept = with_items_is t.last ns (count ∙ sym t.last.ok.0) in
     record {
       laid = subst (λ n. Laid c.truncate.new.self.items n) (sym before)
           (subst (λ xs. Laid xs (get_or es m d).before) (sym entries) l.0);
@@ -46,11 +41,10 @@ invariant_of-self c =
       entries_capacity = omega (arith, i.entries_capacity, c.truncate.ensures.capacity);
       ranks_capacity = i.ranks_capacity;
       rooms = subst (λ xs. HasRoom 0 xs t.room) (sym entries) r.0;
-      last = subst (λ ms. AreLast ms c.truncate.new.self.items) (sym kept)
-          (subst (AreLast ns) (ap (take m) c.deref.ensures.value ∙ sym entries) c.take_back.ensures.last);
-      earlier = subst (λ n. AreEarlier n c.truncate.new.self.items) (sym (ap length kept ∙ count))
-          (subst (AreEarlier (length t.last.items)) (sym entries)
-          (are_earlier-take (length t.last.items) es m (omega (arith, h)) i.earlier));
+      last = subst (AreLast c.take_back.new.last) (ap (take m) c.deref.ensures.value ∙ sym entries) c.take_back.ensures.last;
+      earlier = subst (λ n. AreEarlier n c.truncate.new.self.items) (sym c.take_back.ensures.count)
+          (subst (AreEarlier (length t.last)) (sym entries)
+          (are_earlier-take (length t.last) es m (omega (arith, h)) i.earlier));
     }
 
 pub returns-then-mark-len-clause-trail : goal.returns-then-mark-len-clause-trail
