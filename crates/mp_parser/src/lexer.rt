@@ -22,7 +22,7 @@ pub fn first_token_place(bytes: &[u8]) -> Place
     ensures { IsFirstPlace bytes.now result }
 {
     let mut lexer = Lexer::new(bytes);
-    lexer.skip_blanks();
+    lexer.pass_blanks();
     lexer.place
 }
 
@@ -56,12 +56,45 @@ impl<'a> Lexer<'a> {
     pub fn next_token(&mut self, token: &mut Token<'a>)
         ensures { token_at self.old.rest.now self.old.place ≡ (placed token.new, (self.new.rest.now, self.new.place)) }
     {
-        self.skip_blanks();
+        if self.pass_space() {
+            self.next_behind_blanks(token);
+            return;
+        }
         token.place = self.place;
         self.front(&mut token.kind);
     }
 
+    // The same, where more than a single space may stand before the token. That is rare.
+    #[cold]
+    #[inline(never)]
+    fn next_behind_blanks(&mut self, token: &mut Token<'a>)
+        ensures { token_at self.old.rest.now self.old.place ≡ (placed token.new, (self.new.rest.now, self.new.place)) }
+    {
+        self.pass_blanks();
+        token.place = self.place;
+        self.front(&mut token.kind);
+    }
+
+    // Passes a single space at the front, and says whether blanks or comments may stand there still: no blank is above
+    // `#`, and most bytes are.
+    fn pass_space(&mut self) -> bool
+        ensures passed { after_blanks false self.new.rest.now self.new.place
+            ≡ after_blanks false self.old.rest.now self.old.place }
+        ensures none { result ≡ false
+            → after_blanks false self.new.rest.now self.new.place ≡ (self.new.rest.now, self.new.place) }
+    {
+        if let [b' ', rest @ ..] = self.rest {
+            self.rest = rest;
+            self.place.column += 1;
+        }
+        match self.rest {
+            [first, ..] => *first <= b'#',
+            [] => true,
+        }
+    }
+
     // Passes the longest token at the front and puts it in place of one.
+    #[inline(always)]
     fn front(&mut self, kind: &mut Kind<'a>)
         ensures { front_at self.old.rest.now self.old.place
             ≡ (token_of kind.new, (self.new.rest.now, self.new.place)) }
@@ -76,11 +109,11 @@ impl<'a> Lexer<'a> {
             *kind = Kind::Punct(punct);
             return;
         }
-        let (word, rest) = self.rest.split_at(word_len(self.rest));
-        if !word.is_empty() && mark_count(rest) == 0 {
-            self.rest = rest;
+        let (word, behind) = self.rest.split_at(word_len(self.rest));
+        if !word.is_empty() && word.len() <= MAX_WORD_BYTES && mark_count(behind) == 0 {
+            self.rest = behind;
             self.place.column += word.len() as u32;
-            *kind = settled(Kind::Word(word));
+            *kind = Kind::Word(word);
             return;
         }
         self.run(kind);
@@ -98,25 +131,6 @@ impl<'a> Lexer<'a> {
         let (_, rest) = self.rest.split_at(len);
         self.rest = rest;
         self.place.column += len as u32;
-    }
-
-    // Passes the blanks and comments at the front. No blank is above `#`, and most bytes are; mostly no blank stands
-    // there, or a single space.
-    fn skip_blanks(&mut self)
-        ensures { (self.new.rest.now, self.new.place) ≡ after_blanks false self.old.rest.now self.old.place }
-    {
-        match self.rest {
-            [first, ..] if *first > b'#' => {}
-            [b' ', rest @ ..] => {
-                self.rest = rest;
-                self.place.column += 1;
-                match rest {
-                    [next, ..] if *next > b'#' => {}
-                    _ => self.pass_blanks(),
-                }
-            }
-            _ => self.pass_blanks(),
-        }
     }
 
     // Passes the blanks and comments at the front, byte by byte.
@@ -243,6 +257,7 @@ fn mark_count(bytes: &[u8]) -> usize
 }
 
 // The punctuation character that a byte is.
+#[inline(always)]
 fn punct(byte: u8) -> Option<Punct>
     ensures { MatchOption result (punct_at byte ≡ Bad) (λ p. punct_at byte ≡ Punctuation p) }
 {

@@ -75,6 +75,8 @@ impl<'a> Parser<'a> {
     }
 
     /// The fault that the grammar has another token than the one that is held.
+    #[cold]
+    #[inline(never)]
     pub fn refused(&self) -> SyntaxError
         ensures { result
             ≡ SyntaxError.Fault
@@ -147,6 +149,7 @@ impl<'a> Parser<'a> {
     }
 
     /// Passes this punctuation character, or refuses the token that is held.
+    #[inline]
     pub fn expect(&mut self, punct: Punct) -> Result<(), SyntaxError>
         ensures read { PunctGives (placed self.old.token) punct result (ahead self.old) (ahead self.new) }
         ensures shorter { OnOk result (length (ahead self.new) < length (ahead self.old)) }
@@ -171,6 +174,7 @@ impl<'a> Parser<'a> {
     }
 
     /// Passes a word and gives it, or refuses the token that is held.
+    #[inline]
     pub fn word(&mut self) -> Result<Word<'a>, SyntaxError>
         ensures read { TextGives spot_of word_of result (ahead self.old) (ahead self.new) }
         ensures shorter { OnOk result (length (ahead self.new) < length (ahead self.old)) }

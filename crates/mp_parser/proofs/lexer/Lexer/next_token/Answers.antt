@@ -6,5 +6,5 @@ use Rattle.mp_parser.proofs.lexer.Lexer.next_token.Goals as goal
 pub invariant_of-token : goal.invariant_of-token
 invariant_of-token c =
     record {
-      spelled = subst IsSpelled (ap (λ f. f.0) c.front.ensures) (kind_at-spelled c.skip_blanks.new.self.rest.now);
+      spelled = subst IsSpelled (ap (λ f. f.0) c.front.ensures) (kind_at-spelled c.pass_space.new.self.rest.now);
     }
