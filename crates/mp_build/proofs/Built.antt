@@ -32,12 +32,12 @@ none-unknown (Some d) h = cc
 
 module _ (sig : Sig) where
   -- the terms of a list of expressions
-  terms_of-trees : (ts : List Tree) → terms_of sig (trees ts) ≡ term.trees (map (term_of sig) ts)
+  pub terms_of-trees : (ts : List Tree) → terms_of sig (trees ts) ≡ term.trees (map (term_of sig) ts)
   terms_of-trees [] = refl
   terms_of-trees (t ∷ ts) = ap (term.more_trees (term_of sig t)) (terms_of-trees ts)
 
   -- the patterns of a list of expressions
-  patterns_of-trees : (ts : List Tree) → patterns_of sig (trees ts) ≡ pattern.patterns (map (pattern_of sig) ts)
+  pub patterns_of-trees : (ts : List Tree) → patterns_of sig (trees ts) ≡ pattern.patterns (map (pattern_of sig) ts)
   patterns_of-trees [] = refl
   patterns_of-trees (t ∷ ts) = ap (pattern.more_patterns (pattern_of sig t)) (patterns_of-trees ts)
 

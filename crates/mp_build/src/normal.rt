@@ -1,7 +1,8 @@
 //! Patterns of expressions in normal form.
 
-ghost use Rattle.std.specs.Prelude.{◌≡◌, IsTrue};
+ghost use Rattle.std.specs.Prelude.{◌≡◌, [], true, IsTrue};
 ghost use Rattle.mp_pattern.specs.Normal.{normal_pattern, IsNormalPattern};
+ghost use Rattle.mp_pattern.specs.Sound.{DefaultsAreNormal, holds_ops};
 ghost use Rattle.mp_pattern.specs.View.{pattern_tree};
 ghost use Rattle.mp_parser.specs.View.{expr_tree};
 ghost use Rattle.mp_build.specs.Answers.{Gives};
@@ -46,6 +47,22 @@ pub fn normal_pattern(alloc: Global, sig: &Signature, expr: &Expr<'_>) -> Result
         (λ p. pattern_tree p ≡ normal_pattern sig.now (pattern_of sig.now (expr_tree expr.now))) }
 {
     let pattern = whole_pattern(alloc, sig, expr)?;
+    normal_built_pattern(alloc, sig, pattern)
+}
+
+/// The normal form of a pattern whose operations are held and whose defaults are normal, by `normal_pattern` of
+/// mp_pattern's `specs/Normal.antt`: the pattern itself, where none of its operations has an equation.
+///
+/// `Memory`: memory ran out. No other error comes.
+pub fn normal_built_pattern(
+    alloc: Global,
+    sig: &Signature,
+    pattern: Pattern,
+) -> Result<Pattern, TextError>
+    requires held { holds_ops sig.now (pattern_tree pattern) ≡ true }
+    requires defaults { DefaultsAreNormal sig.now (pattern_tree pattern) }
+    ensures { Gives result [] (λ p. pattern_tree p ≡ normal_pattern sig.now (pattern_tree pattern)) }
+{
     if are_few_and_free(sig) || is_plain(sig, &pattern) {
         return Ok(pattern);
     }
