@@ -1,6 +1,7 @@
 pub mod FileSteps
 pub mod SoundSubject
 pub mod Whole
+mod InOrderLaws
 pub mod SoundFile
 pub mod Statements
 pub mod DeclaredParts
@@ -9,3 +10,7 @@ mod Draft
 mod EditLaws
 mod SoundEdits
 mod Examples
+mod ReadTermLaws
+mod ReadPatternLaws
+mod SubjectLaws
+mod RuleReaderLaws

@@ -49,6 +49,16 @@ impl Subjects {
         }
     }
 
+    /// The empty list, with room for so many subjects at once where memory has it.
+    pub(crate) fn with_room(alloc: Global, room: usize) -> Self
+        ensures { result ≡ [] }
+    {
+        match Vec::with_capacity(alloc, room) {
+            Ok(items) => Subjects { items },
+            Err(_) => Subjects::new(alloc),
+        }
+    }
+
     /// Adds a subject at the end. For want of memory it answers `Memory`, drops the subject and leaves the list as it
     /// was.
     pub fn push(&mut self, item: Subject) -> Result<(), Memory>

@@ -4,10 +4,15 @@
 
 mod file;
 mod file_printer;
+mod in_order;
 mod names;
+mod pattern_reader;
 mod reader;
 mod rule;
+mod rule_reader;
+mod subject;
 mod template;
+mod term_reader;
 
 pub use file::{EditSet, EditSets, File, Subject, Subjects};
 pub use file_printer::write_file;

@@ -32,6 +32,16 @@ impl<'a> TextNames<'a> {
         }
     }
 
+    /// No name, with room for so many at once where memory has it.
+    pub fn with_room(alloc: Global, room: usize) -> Self
+        ensures { result ≡ [] }
+    {
+        match IndexSet::with_capacity(alloc, room) {
+            Ok(names) => TextNames { names },
+            Err(_) => TextNames::new(alloc),
+        }
+    }
+
     /// The index of the name of these bytes, from 0. It is None exactly where the name isn't there. It takes no memory.
     pub fn index_of(&self, name: &[u8]) -> Option<usize>
         ensures { result ≡ position (bytes_eq name.now) self.now }

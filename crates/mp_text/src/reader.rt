@@ -10,6 +10,7 @@ ghost use Rattle.mp_build.specs.declared.fault.TextFault as plain;
 ghost use Rattle.mp_build.specs.Answers.{Gives};
 ghost use Rattle.mp_text.specs.FileBuild.{file_tree_of};
 ghost use Rattle.mp_text.specs.Draft.{IsDraftOf};
+ghost use Rattle.mp_build.specs.Build.{sig_of};
 ghost use Rattle.mp_build.specs.Checks.{name_faults};
 ghost use Rattle.mp_build.specs.Edits.{edit_of};
 ghost use Rattle.mp_text.specs.FileChecks.{statement_faults, faults};
@@ -21,6 +22,7 @@ ghost use Rattle.mp_build.specs.Answers.{IfText, IsFaultOrMemory};
 ghost use Rattle.mp_text.specs.Computed.{file_of, fault_of, ReadGives, IsComputed};
 
 use crate::file::{EditSet, EditSets, File, Subject, Subjects};
+use crate::in_order::read_in_order;
 use crate::names::TextNames;
 use crate::rule::{build_rule, is_large_rule};
 use bumpalo::Bump;
@@ -84,6 +86,9 @@ fn read(alloc: Global, bytes: &[u8]) -> Result<File, TextError>
     requires { length bytes.now < 2 ^ 32 - 1 }
     ensures { ReadGives bytes.now result }
 {
+    if let Some(file) = read_in_order(alloc, bytes)? {
+        return Ok(file);
+    }
     let bump = Bump::new(alloc);
     let statements = read_statements(alloc, &bump, bytes)?;
     build_file(alloc, &statements)
@@ -91,15 +96,15 @@ fn read(alloc: Global, bytes: &[u8]) -> Result<File, TextError>
 
 /// A file while it is built, with the names of its rules and those of its subjects: `IsDraftOf` of `specs/Draft.antt`.
 #[derive(Drop)]
-struct Draft<'a> {
-    file: File,
-    rule_names: TextNames<'a>,
-    subject_names: TextNames<'a>,
+pub(crate) struct Draft<'a> {
+    pub(crate) file: File,
+    pub(crate) rule_names: TextNames<'a>,
+    pub(crate) subject_names: TextNames<'a>,
 }
 
 /// Adds the name of a statement behind these, or finds its fault: it is one of them, there are as many as there may be,
 /// or the statement is too large.
-fn add_statement_name<'a>(
+pub(crate) fn add_statement_name<'a>(
     names: &mut TextNames<'a>,
     name: Word<'a>,
     count: usize,
@@ -217,7 +222,7 @@ fn add_edit(
 }
 
 /// Adds what a statement gives to the file.
-fn add_statement<'a>(
+pub(crate) fn add_statement<'a>(
     alloc: Global,
     draft: &mut Draft<'a>,
     statement: &Statement<'a>,
@@ -241,25 +246,51 @@ fn add_statement<'a>(
     }
 }
 
+// The empty list of rules, with room for so many at once where memory has it.
+fn rules_with_room(alloc: Global, room: usize) -> Rules
+    ensures { result ≡ [] }
+{
+    match Rules::with_room(alloc, room) {
+        Ok(rules) => rules,
+        Err(_) => Rules::new(alloc),
+    }
+}
+
+/// The draft of the statements over the signature that they declare, or their first fault. It has room at once for so
+/// many rules and subjects, but for no more than there may be, and only where memory has it.
+pub(crate) fn draft_of<'a>(
+    alloc: Global,
+    statements: &[Statement<'a>],
+    room: usize,
+) -> Result<Draft<'a>, TextError>
+    ensures { Gives result (faults (map statement_tree statements.now))
+        (λ d. IsDraftOf (sig_of (map statement_tree statements.now)) (map statement_tree statements.now) d) }
+{
+    let sig = declare(alloc, statements)?;
+    let rules = room.min(MAX_RULES);
+    let subjects = room.min(MAX_SUBJECTS);
+    let file = File {
+        sig,
+        rules: rules_with_room(alloc, rules),
+        subjects: Subjects::with_room(alloc, subjects),
+        edits: EditSets::new(alloc),
+    };
+    let mut draft = Draft {
+        file,
+        rule_names: TextNames::with_room(alloc, rules),
+        subject_names: TextNames::with_room(alloc, subjects),
+    };
+    for statement in statements {
+        add_statement(alloc, &mut draft, statement)?;
+    }
+    Ok(draft)
+}
+
 /// The file that the statements stand for, or their first fault.
 fn build_file(alloc: Global, statements: &[Statement<'_>]) -> Result<File, TextError>
     ensures { Gives result (faults (map statement_tree statements.now))
         (λ f. file_tree f ≡ file_tree_of (map statement_tree statements.now)) }
 {
-    let sig = declare(alloc, statements)?;
-    let file = File {
-        sig,
-        rules: Rules::new(alloc),
-        subjects: Subjects::new(alloc),
-        edits: EditSets::new(alloc),
-    };
-    let mut draft = Draft {
-        file,
-        rule_names: TextNames::new(alloc),
-        subject_names: TextNames::new(alloc),
-    };
-    for statement in statements {
-        add_statement(alloc, &mut draft, statement)?;
-    }
+    let draft = draft_of(alloc, statements, statements.len())?;
     Ok(draft.file)
 }

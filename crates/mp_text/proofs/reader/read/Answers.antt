@@ -6,7 +6,7 @@ use Rattle.mp_text.proofs.reader.read.Goals as goal
 
 pub returns-in_err-statements : goal.returns-in_err-statements
 returns-in_err-statements c =
-    let p = err_from_is_err_and c.from_residual.result c.from_residual.ensures.1 in
+    let p = err_from_is_err_and c.from_residual-in_err-statements.result c.from_residual-in_err-statements.ensures.1 in
     rw (p.1, p.2) (ReadGives-error c.args.bytes.now c.in_err-statements.field-0.0 c.in_err-statements.ensures.fault)
 
 pub returns : goal.returns

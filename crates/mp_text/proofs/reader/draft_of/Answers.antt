@@ -1,4 +1,4 @@
-use Rattle.std.proofs.Common.{[], map, take, length, arith, refl, sym, ap, ◌∙◌}
+use Rattle.std.proofs.Common.{map, take, length, arith, refl, sym, ap, ◌∙◌}
 use Rattle.std.proofs.lemmas.List.{take_all, drop_all}
 use Rattle.std.proofs.lemmas.Result.{err_from_is_err_and}
 use Rattle.mp_term.proofs.ListLaws.{drop-item}
@@ -7,17 +7,16 @@ use Rattle.mp_build.specs.Build.{sig_of}
 use Rattle.mp_build.specs.Checks.{faults_by}
 use Rattle.mp_build.proofs.Declared.{so_far-item}
 use Rattle.mp_build.proofs.Fails.{fails-front, fails-behind, fails-along, none-append}
-use Rattle.mp_text.specs.FileBuild.{file_over}
 use Rattle.mp_text.specs.FileChecks.{statement_faults}
-use Rattle.mp_text.proofs.reader.build_file.Goals as goal
+use Rattle.mp_text.proofs.reader.draft_of.Goals as goal
 
 pub loop-statement-init : goal.loop-statement-init
 loop-statement-init c = record {
   built = record {
-    file = rw (c.in_ok-sig.ensures.1, c.new.ensures, c.new-2.ensures, c.new-3.ensures) refl;
-    rules = c.new-4.ensures;
-    subjects = c.new-5.ensures;
-    few = omega (arith, ap length c.new-5.ensures);
+    file = rw (c.in_ok-sig.ensures.1, c.rules_with_room.ensures, c.with_room.ensures, c.new.ensures) refl;
+    rules = c.with_room-2.ensures;
+    subjects = c.with_room-3.ensures;
+    few = omega (arith, ap length c.with_room-3.ensures);
   };
   faults = refl;
 }
@@ -59,5 +58,5 @@ returns c =
     let none = drop_all index ss (omega arith) in (
       none-append _ _ c.in_ok-sig.ensures.0 ∙ sym was.faults
           ∙ ap (λ l. faults_by (statement_faults sig) (map statement_tree (take index ss)) (map statement_tree l)) none,
-      was.built.file ∙ ap (λ l. file_over sig (map statement_tree l)) (take_all index ss (omega arith)),
+      rw (take_all index ss (omega arith)) at was.built,
     )

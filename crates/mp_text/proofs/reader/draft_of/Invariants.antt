@@ -4,7 +4,7 @@ use Rattle.mp_build.specs.Build.{sig_of}
 use Rattle.mp_text.specs.Draft.{IsDraftOf}
 use Rattle.mp_build.specs.Checks.{faults_by}
 use Rattle.mp_text.specs.FileChecks.{statement_faults}
-use Rattle.mp_text.proofs.reader.build_file.Given as goal
+use Rattle.mp_text.proofs.reader.draft_of.Given as goal
 
 -- the file is that of the statements so far, and the faults are those of the others
 abbrev pub invariant-loop-statement : goal.invariant-loop-statement

@@ -1,0 +1,114 @@
+//! Reads files whose declarations come first, statement by statement.
+
+ghost use Rattle.std.specs.Prelude.{◌≡◌, ◌<◌, ◌≤◌, ◌-◌, ◌^◌, ℕ, List, [], false, length, map};
+ghost use Rattle.std.specs.Prelude.{IfOk, IfSome, IsTrue, OnOk};
+ghost use Rattle.mp_parser.specs.Lexing.{token_of};
+ghost use Rattle.mp_parser.specs.Machine.{is_end};
+ghost use Rattle.mp_parser.specs.Parsing.{ahead};
+ghost use Rattle.mp_parser.specs.View.{statement_tree};
+ghost use Rattle.mp_pattern.specs.declared.limits.TheConstants.{MAX_SUBJECTS};
+ghost use Rattle.mp_text.specs.File.{file_tree};
+ghost use Rattle.mp_text.specs.InOrder.{HasRead, IsDraftRead, is_declaration};
+ghost use Rattle.mp_text.specs.Reading.{IsFileOf};
+
+use crate::file::File;
+use crate::reader::{Draft, add_statement, draft_of};
+use crate::rule_reader::{add_pattern, read_rule};
+use crate::subject::{add_term, read_subject};
+use bumpalo::Bump;
+use mp_build::TextError;
+use mp_parser::arena::Arena;
+use mp_parser::parser::Parser;
+use mp_syntax::{Statement, SyntaxError, read_statement};
+use mp_term::Memory;
+use std::alloc::Global;
+
+// So many bytes a short rule or subject has.
+const SHORT_STATEMENT: usize = 16;
+
+/// The file of the bytes, built statement by statement, where its declarations come before its other statements and
+/// nothing has a fault. None says nothing of the bytes. `Memory` comes where memory runs out.
+pub(crate) fn read_in_order(alloc: Global, bytes: &[u8]) -> Result<Option<File>, Memory>
+    requires { length bytes.now < 2 ^ 32 - 1 }
+    ensures { IfOk result (λ o. IfSome o (λ f. IsFileOf bytes.now (file_tree f))) }
+{
+    match build_in_order(alloc, bytes) {
+        Ok(file) => Ok(file),
+        Err(TextError::Text(_)) => Ok(None),
+        Err(TextError::Memory) => Err(Memory),
+    }
+}
+
+// The same, but where something has a fault, that is answered; it need not be the first one.
+fn build_in_order(alloc: Global, bytes: &[u8]) -> Result<Option<File>, TextError>
+    requires { length bytes.now < 2 ^ 32 - 1 }
+    ensures { IfOk result (λ o. IfSome o (λ f. IsFileOf bytes.now (file_tree f))) }
+{
+    let bump = Bump::new(alloc);
+    let mut arena = Arena::new(alloc, &bump);
+    let mut parser = Parser::new(bytes);
+    let declarations = declarations(alloc, &mut parser, &mut arena)?;
+    let mut draft = draft_of(alloc, &declarations, bytes.len() / SHORT_STATEMENT)?;
+    while !parser.is_at_end() {
+        if !add_next(alloc, &mut draft, &mut parser, &mut arena)? {
+            return Ok(None);
+        }
+    }
+    Ok(Some(draft.file))
+}
+
+// The declarations that come next.
+fn declarations<'a>(
+    alloc: Global,
+    parser: &mut Parser<'a>,
+    arena: &mut Arena<'a>,
+) -> Result<Vec<Statement<'a>>, SyntaxError>
+    ensures { IfOk result (λ ss. (bytes : List ℕ) → HasRead bytes [] parser.old
+        → HasRead bytes (map statement_tree ss.items) parser.new) }
+{
+    let mut declarations = Vec::new(alloc);
+    while parser.sees_word(b"op") || parser.sees_word(b"kind") {
+        let statement = read_statement(parser, arena)?;
+        declarations.push(statement)?;
+    }
+    Ok(declarations)
+}
+
+// Adds the next statement to the draft. Where that is a declaration it answers false.
+fn add_next<'a>(
+    alloc: Global,
+    draft: &mut Draft<'a>,
+    parser: &mut Parser<'a>,
+    arena: &mut Arena<'a>,
+) -> Result<bool, TextError>
+    requires more { is_end (token_of parser.old.token.kind) ≡ false }
+    requires few { length draft.old.subject_names ≤ MAX_SUBJECTS }
+    ensures added { IfOk result (λ b. IsTrue b → (bytes : List ℕ) → IsDraftRead bytes parser.old draft.old
+        → IsDraftRead bytes parser.new draft.new) }
+    ensures shorter { OnOk result (length (ahead parser.new) < length (ahead parser.old)) }
+{
+    if let Some((name, term)) = read_subject(alloc, &draft.file.sig, parser)? {
+        add_term(alloc, draft, name, term)?;
+        return Ok(true);
+    }
+    if let Some((name, pattern)) = read_rule(alloc, &draft.file.sig, parser)? {
+        add_pattern(alloc, draft, name, pattern)?;
+        return Ok(true);
+    }
+    let statement = read_statement(parser, arena)?;
+    if is_declaration(&statement) {
+        return Ok(false);
+    }
+    add_statement(alloc, draft, &statement)?;
+    Ok(true)
+}
+
+// The statement declares an operation or a kind.
+fn is_declaration(statement: &Statement<'_>) -> bool
+    ensures { result ≡ is_declaration (statement_tree statement.now) }
+{
+    match statement {
+        Statement::Op { .. } | Statement::Kind { .. } => true,
+        _ => false,
+    }
+}
