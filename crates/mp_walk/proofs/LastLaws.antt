@@ -23,16 +23,16 @@ use Rattle.mp_table.specs.Table as plain_table
 use Rattle.mp_walk.specs.OpenOnes.{opens, IsPlaceBelow}
 use Rattle.mp_term.specs.Listing.{In}
 use Rattle.mp_term.specs.Tree.{Tree}
-use Rattle.mp_walk.specs.CourseVisits.{course_visits, token_visits, read_visits, visits_behind, visits_from}
+use Rattle.mp_walk.specs.CourseVisits.{course_visits, token_visits, read_visits, visits_from}
 use Rattle.mp_walk.specs.TokenMachine.{begin_state}
 use Rattle.mp_walk.specs.Visits.{total}
 use Rattle.mp_walk.specs.WalkView.{subject_of}
 use Rattle.mp_walk.proofs.ChainLaws.{alike-same, chain-end, chain-last}
-use Rattle.mp_walk.proofs.TurnLaws.{opens-ordered, unread-steps, new-to_come, last-to_come, ended-to_come}
-use Rattle.mp_walk.proofs.VisitLaws.{total-more, unread-visits, none-visits}
+use Rattle.mp_walk.proofs.TurnLaws.{opens-ordered, unread-steps, new-to_come}
+use Rattle.mp_walk.proofs.VisitLaws.{unread-visits}
 
 -- the value of what is there
-there : {X : Type 0} (o : Option X) → IsSome o → (x : X) × (o ≡ Some x)
+pub there : {X : Type 0} (o : Option X) → IsSome o → (x : X) × (o ≡ Some x)
 there None h = cc
 there (Some x) h = (x, refl)
 
@@ -51,47 +51,6 @@ module _ (c : Course) (C : IsCourse c) where
   Of ls l = read_to_come c.set.sig.now c.set.code.now.instrs
       (table_read c.set.code.now.instrs (map (read_of c.set.table.now c.frames.items c.trail) ls)) l
       ++ reads_to_come c.set.sig.now c.set.code.now.instrs [] (map (read_of c.set.table.now c.frames.items c.trail) ls)
-
-  -- no instruction is to be tried, and the last level comes next
-  pub last-old : c.target ≡ None → (ls : List Level) (l : Level) → c.levels.items ≡ ls ++ l ∷ []
-      → course_to_come c ≡ Of ls (read_of c.set.table.now c.frames.items c.trail l)
-  last-old e ls l split =
-      let sig = c.set.sig.now in
-      let code = c.set.code.now.instrs in
-      let read = read_of c.set.table.now c.frames.items c.trail in
-      let p = (course_of c).present in
-      ap (λ o. to_come_in sig code (record { reads = reads_of c; present = p; target = o })) e
-      ∙ ap (λ rs. to_come_in sig code (record { reads = rs; present = p; target = None }))
-      (ap (map read) split ∙ map-append read ls (l ∷ []))
-      ∙ last-to_come sig code C.setting.walkable (map read ls) (read l) p
-
-  -- and where there is none, nothing
-  pub last-none : c.target ≡ None → c.levels.items ≡ [] → course_to_come c ≡ []
-  last-none e none =
-      let sig = c.set.sig.now in
-      let code = c.set.code.now.instrs in
-      let p = (course_of c).present in
-      ap (λ o. to_come_in sig code (record { reads = reads_of c; present = p; target = o })) e
-      ∙ ap (λ ls. to_come_in sig code (record {
-        reads = map (read_of c.set.table.now c.frames.items c.trail) ls;
-        present = p;
-        target = None;
-      })) none
-      ∙ ended-to_come sig code C.setting.walkable p
-
-  -- how much is to be read is the same
-  pub visits-old : c.target ≡ None → (ls : List Level) (l : Level) → c.levels.items ≡ ls ++ l ∷ []
-      → course_visits c ≡ visits_behind c.set.sig.now c.set.code.now.instrs
-      (map (read_of c.set.table.now c.frames.items c.trail) ls) (read_of c.set.table.now c.frames.items c.trail l)
-  visits-old e ls l split =
-      let sig = c.set.sig.now in
-      let code = c.set.code.now.instrs in
-      let read = read_of c.set.table.now c.frames.items c.trail in
-      let p = (course_of c).present in
-      let none = ap (λ o. visits_from sig code o p) e ∙ none-visits sig code C.setting.walkable p in
-      let more = ap (λ rs. total (map (read_visits sig code) rs)) (ap (map read) split ∙ map-append read ls (l ∷ []))
-      ∙ total-more (read_visits sig code) (map read ls) (read l) in
-      omega (arith, none, more)
 
   -- the tokens before the last level lead to it, and what is left of it are steps of it
   pub last-chained : (ls : List Level) (l : Level) → c.levels.items ≡ ls ++ l ∷ []

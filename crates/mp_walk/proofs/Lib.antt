@@ -29,6 +29,7 @@ pub mod StepLaws
 pub mod RuleLaws
 pub mod TurnLaws
 pub mod VisitLaws
+pub mod EndedLaws
 pub mod EntryLaws
 pub mod ReadOnLaws
 pub mod LastLaws

@@ -18,7 +18,6 @@ use Rattle.mp_walk.specs.TokenMachine.{Open, State, below_items, steps_in, token
 use Rattle.mp_walk.specs.Walkable.{IsWalkable}
 use Rattle.mp_walk.specs.Ways.{Step, ways_from}
 use Rattle.mp_walk.proofs.CodePaths.{forest-step, forest-none}
-use Rattle.mp_walk.proofs.CourseLaws.{reads_to_come-more}
 use Rattle.mp_walk.proofs.OpenLaws.{opens-is}
 use Rattle.mp_walk.proofs.WaySteps.{steps_in-ways}
 
@@ -66,17 +65,6 @@ module _ (sig : Sig) (code : List Instr) (W : IsWalkable sig code) where
   new-to_come reads n i s held h =
       ap (λ xs. xs ++ reads_to_come sig code [] reads) (unread-to_come n i s (table_read code reads) held h)
 
-  none-to_come : (s : State) (before : Table) → walk_from sig code None s before ≡ []
+  -- where no instruction is to be tried, nothing is put out from there on
+  pub none-to_come : (s : State) (before : Table) → walk_from sig code None s before ≡ []
   none-to_come s before = ap (λ F. walk (token_steps sig) token_ends F s before) (forest-none code W.forward)
-
-  -- where no instruction is to be tried, the last token comes next
-  pub last-to_come : (reads : List Read) (l : Read) (s : State)
-      → to_come_in sig code (record { reads = reads ++ l ∷ []; present = s; target = None })
-      ≡ read_to_come sig code (table_read code reads) l ++ reads_to_come sig code [] reads
-  last-to_come reads l s =
-      ap (λ xs. xs ++ reads_to_come sig code [] (reads ++ l ∷ [])) (none-to_come s (table_read code (reads ++ l ∷ [])))
-      ∙ reads_to_come-more sig code [] reads l
-
-  -- and where no token is read, nothing
-  pub ended-to_come : (s : State) → to_come_in sig code (record { reads = []; present = s; target = None }) ≡ []
-  ended-to_come s = ap (λ xs. xs ++ []) (none-to_come s [])

@@ -100,6 +100,10 @@ module _ (sig : Sig) where
   abbrev pub steps_left : NetToken → Read → List Step
   steps_left k l = elim l.state.open_ones [ [] ↦ [] | f ∷ fs ↦ steps_in_left k l f fs ]
 
+  -- no step is left of a token, and nothing stands beside it
+  abbrev pub IsEnded : List Instr → Read → Type 0
+  IsEnded code l = (i : Instr) → instr_at code l.instr ≡ Some i → (i.over ≡ None) × (steps_left i.token l ≡ [])
+
 -- the entries that an instruction put out by the way before the next one
 abbrev pub entries_in : NetToken → Read → List Entry
 entries_in k l = elim l.state.open_ones [ [] ↦ [] | f ∷ fs ↦ entries_by k f (l.next - 1) l.below ]

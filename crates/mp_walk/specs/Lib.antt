@@ -1,4 +1,5 @@
 pub mod Instrs
+pub mod FewNumbers
 pub mod InstrView
 pub mod InstrCode
 pub mod Forests

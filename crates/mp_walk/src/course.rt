@@ -1,11 +1,11 @@
 //! The course of a walk: the tokens that it has read, and what is to be tried next.
-ghost use Rattle.std.specs.Prelude.{◌≡◌, ℕ, [], ◌∷◌, Some, IfOk, MatchOption, MatchBool, if◌then◌else◌};
+ghost use Rattle.std.specs.Prelude.{◌≡◌, ℕ, [], ◌∷◌, Some, None, IfOk, MatchOption, MatchBool, if◌then◌else◌};
 ghost use Rattle.std.specs.Prelude.{◌≤◌, ◌<◌, length, IsTrue, IsSome};
 ghost use Rattle.mp_term.specs.Size.{node_count};
 ghost use Rattle.mp_pattern.specs.Fits.{Table};
 ghost use Rattle.mp_ac.specs.Store.{IsStoreOf};
 ghost use Rattle.mp_walk.specs.CodeForest.{leaf, code_forest};
-ghost use Rattle.mp_walk.specs.Course.{Read};
+ghost use Rattle.mp_walk.specs.Course.{Read, IsEnded};
 ghost use Rattle.mp_walk.specs.CourseView.{course_of, course_to_come, token_to_come, IsCourse, IsStanding, IsLeft};
 ghost use Rattle.mp_walk.specs.CourseView.{IsAtItem, IsTaken, IsBroughtOn, item_of, last_instr};
 ghost use Rattle.mp_walk.specs.CourseVisits.{course_visits, token_visits, IsFewer};
@@ -127,6 +127,7 @@ impl<'a> Course<'a> {
     }
 
     // Goes on below a token whose step is taken.
+    #[inline(always)]
     fn go_down(&mut self, level: Level<'a>, instr: &Instr) -> Result<Turn, Memory>
         requires taken { (before : Read) × IsTaken self.old before level (plain_instr instr.now) }
         requires store { IsStoreOf self.old.set.table.now self.old.set.code.now.plans.plans self.old.store }
@@ -241,6 +242,47 @@ impl<'a> Course<'a> {
         self.go_down(level, instr)
     }
 
+    // Nothing is left of a token that is read, as is told without the trail, and nothing stands beside it.
+    fn is_ended(&self, level: &Level<'a>) -> bool
+        requires { IsStanding self.now level.now }
+        ensures { IsTrue result → IsEnded self.now.set.sig.now self.now.set.code.now.instrs
+            (read_of self.now.set.table.now self.now.frames.items self.now.trail level.now) }
+    {
+        let Setting { code, .. } = self.set;
+        let Some(instr) = code.instr(level.instr) else {
+            unreachable!()
+        };
+        instr.over.is_none()
+            && is_spent(
+                self.set,
+                &self.frames,
+                level.place,
+                &instr.token,
+                level.next,
+            )
+    }
+
+    // The last token that is read of which something may be left, or beside which something stands. Those behind it are
+    // taken back.
+    fn last_open(&mut self) -> Option<Level<'a>>
+        requires course { IsCourse self.old }
+        requires target { self.old.target ≡ None }
+        ensures open { MatchOption result (course_to_come self.old ≡ []) (λ l. IsStanding self.new l
+            × (token_to_come self.new (read_of self.new.set.table.now self.new.frames.items self.new.trail l)
+            ≡ course_to_come self.old)
+            × (token_visits self.new (read_of self.new.set.table.now self.new.frames.items self.new.trail l)
+            ≤ course_visits self.old)) }
+        ensures store { IsStoreOf self.new.set.table.now self.new.set.code.now.plans.plans self.new.store }
+        ensures setting { self.new.set ≡ self.old.set }
+    {
+        while let Some(level) = self.levels.pop() {
+            if !self.is_ended(&level) {
+                return Some(level);
+            }
+        }
+        None
+    }
+
     // Reads on a token of which something is read.
     fn read_again(&mut self, level: Level<'a>) -> Result<Turn, Memory>
         requires standing { IsStanding self.old level }
@@ -321,7 +363,7 @@ impl<'a> Course<'a> {
     {
         match self.target {
             Some(number) => self.read_first(number),
-            None => match self.levels.pop() {
+            None => match self.last_open() {
                 None => Ok(Turn::Ended),
                 Some(level) => self.read_again(level),
             },

@@ -3,32 +3,70 @@ ghost use Rattle.std.specs.Prelude.{◌≡◌, ◌<◌, ℕ, List, [], ◌∷◌
 ghost use Rattle.std.specs.Prelude.{IfOk, Some, option_map};
 ghost use Rattle.mp_walk.specs.Instrs as plain;
 ghost use Rattle.mp_walk.specs.InstrView.{plain_instr};
+ghost use Rattle.mp_walk.specs.FewNumbers.{few_numbers};
 
 use crate::copy::copy_token;
 use mp_pattern::NetToken;
 use mp_term::Memory;
-use smallvec::SmallVec;
 use std::alloc::Global;
 use std::marker::Model;
+use std::slice;
 
-// A list of so many numbers, or fewer, takes no allocation.
-const INLINE_NUMBERS: usize = 4;
+// A table has many lists of numbers, which hold mostly none or one.
+const _: () = prove!(size_of::<Numbers>() == 16);
+
+// A list of numbers: none or one take no allocation.
+#[derive(Drop)]
+enum Few {
+    Empty,
+    One(u32),
+    Many(Box<Vec<u32>>),
+}
+
+impl Few {
+    // The numbers in order.
+    fn as_slice(&self) -> &[u32]
+        ensures { result.now ≡ few_numbers self.now }
+    {
+        match self {
+            Few::Empty => &[],
+            Few::One(only) => slice::from_ref(only),
+            Few::Many(items) => items.as_slice(),
+        }
+    }
+
+    // The list of the numbers.
+    fn of(alloc: Global, items: &[u32]) -> Result<Few, Memory>
+        ensures { IfOk result (λ f. few_numbers f ≡ items.now) }
+    {
+        match items {
+            [] => Ok(Few::Empty),
+            [only] => Ok(Few::One(*only)),
+            _ => {
+                let many = Vec::from_slice(alloc, items)?;
+                Ok(Few::Many(Box::new(alloc, many)?))
+            }
+        }
+    }
+}
 
 /// A list of numbers, seen by contracts as the list of them.
 #[derive(Drop)]
 pub struct Numbers {
-    items: SmallVec<u32, INLINE_NUMBERS>,
+    alloc: Global,
+    few: Few,
 }
 
 impl Model for Numbers {
     ghost use Rattle.std.specs.Prelude.{ℕ, List};
     ghost use Rattle.std.specs.Coded.{coded_list, coded_ℕ};
+    ghost use Rattle.mp_walk.specs.FewNumbers.{few_numbers};
 
     ghost Value = { List ℕ };
 
     ghost coded = { coded_list coded_ℕ };
 
-    ghost view = { λ ns. ns.items.items };
+    ghost view = { λ ns. few_numbers ns.few };
 }
 
 impl Numbers {
@@ -37,7 +75,8 @@ impl Numbers {
         ensures { result ≡ [] }
     {
         Numbers {
-            items: SmallVec::new(alloc),
+            alloc,
+            few: Few::Empty,
         }
     }
 
@@ -46,7 +85,11 @@ impl Numbers {
         ensures ok { OnOk result (self.new ≡ self.old ++ item ∷ []) }
         ensures err { OnErr result (self.new ≡ self.old) }
     {
-        self.items.push(item)?;
+        match &mut self.few {
+            Few::Empty => self.few = Few::One(item),
+            Few::One(first) => self.few = Few::of(self.alloc, &[*first, item])?,
+            Few::Many(items) => items.push(item)?,
+        }
         Ok(())
     }
 
@@ -54,7 +97,7 @@ impl Numbers {
     pub fn len(&self) -> usize
         ensures { result ≡ length self.now }
     {
-        self.items.len()
+        self.as_slice().len()
     }
 
     /// The number at the index, from 0. It is None exactly where the index isn't below the length.
@@ -68,15 +111,15 @@ impl Numbers {
     pub fn as_slice(&self) -> &[u32]
         ensures { result.now ≡ self.now }
     {
-        self.items.as_slice()
+        self.few.as_slice()
     }
 
     /// An equal list. `Memory` comes where there is no room for it.
     pub fn copy(&self, alloc: Global) -> Result<Numbers, Memory>
         ensures { IfOk result (λ ns. ns ≡ self.now) }
     {
-        let items = SmallVec::from_slice(alloc, self.as_slice())?;
-        Ok(Numbers { items })
+        let few = Few::of(alloc, self.as_slice())?;
+        Ok(Numbers { alloc, few })
     }
 }
 

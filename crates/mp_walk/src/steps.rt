@@ -102,6 +102,7 @@ fn begin_way(
 
 // The first way from the number on in which the token reads on in the open operation, which is bound: the token isn't
 // that of a commutative application. None comes where there is none, and then nothing is bound.
+#[inline(always)]
 pub(crate) fn way_from(
     sig: &Signature,
     table: &Table,
