@@ -2,6 +2,7 @@ pub mod TokenLists
 pub mod LaidLaws
 pub mod StateLaws
 mod TokenLaws
+mod KeptLaws
 mod ChainLaws
 mod GroupLaws
 mod DigestLaws

@@ -2,6 +2,7 @@ pub mod Prefixes
 pub mod Laid
 pub mod Digest
 pub mod TokenView
+pub mod KeptTokens
 pub mod Groups
 pub mod Marks
 pub mod GroupView

@@ -11,11 +11,15 @@ ghost use Rattle.mp_pattern.specs.NetTokens.{same_token};
 
 use crate::digest::token_digest;
 use crate::marks::{has_mark, marks_for, set_mark};
-use crate::token::{Token, TokenList, is_plainly_same, is_same};
+use crate::token::{Token, is_plainly_same, is_same};
+use crate::tokens::TokenList;
 use mp_term::Memory;
 use mp_walk::Numbers;
 use std::alloc::Global;
 use std::slice;
+
+// How many groups there is room for at once.
+const ROOM_FOR_GROUPS: usize = 16;
 
 // A token with its digest, and the numbers of the lists that have it at the place: the first alone, or all of them
 // where there are more.
@@ -158,7 +162,7 @@ fn enter_next<'a>(
 }
 
 // The token with which all lists of the numbers go on at the place, where that is told at once of each.
-fn shared_token<'a>(lists: &[TokenList<'a>], numbers: &[u32], place: usize) -> Option<Token<'a>>
+fn shared_token<'a>(lists: &[TokenList<'_, 'a>], numbers: &[u32], place: usize) -> Option<Token<'a>>
     requires { AllByRecursion (λ n. n < length lists.now) numbers.now }
     ensures { IfSome result (λ k. grouped (left_at lists.now place numbers.now) ≡ (read_token k, numbers.now) ∷ []) }
 {
@@ -193,7 +197,7 @@ fn one_group<'a>(alloc: Global, token: Token<'a>, numbers: &[u32]) -> Result<Vec
 // The groups of the lists of the numbers by their tokens at the place, in order of the first list of each.
 pub(crate) fn groups_of<'a>(
     alloc: Global,
-    lists: &[TokenList<'a>],
+    lists: &[TokenList<'_, 'a>],
     numbers: &[u32],
     place: usize,
 ) -> Result<Vec<Group<'a>>, Memory>
@@ -203,7 +207,7 @@ pub(crate) fn groups_of<'a>(
     if let Some(token) = shared_token(lists, numbers, place) {
         return one_group(alloc, token, numbers);
     }
-    let mut groups = Vec::new(alloc);
+    let mut groups = Vec::with_capacity(alloc, numbers.len().min(ROOM_FOR_GROUPS))?;
     let mut marks = marks_for(alloc, numbers.len())?;
     for number in numbers {
         if let Some(token) = lists[*number as usize].get(place) {
@@ -216,7 +220,7 @@ pub(crate) fn groups_of<'a>(
 // The numbers of the lists that end at the place.
 pub(crate) fn ended(
     alloc: Global,
-    lists: &[TokenList<'_>],
+    lists: &[TokenList<'_, '_>],
     numbers: &[u32],
     place: usize,
 ) -> Result<Numbers, Memory>

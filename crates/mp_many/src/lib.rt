@@ -14,6 +14,7 @@ mod marks;
 mod names;
 mod states;
 mod token;
+mod tokens;
 mod tree;
 mod walk;
 

@@ -5,10 +5,11 @@ ghost use Rattle.mp_pattern.specs.RuleView.{rule_tree};
 ghost use Rattle.mp_pattern.specs.Variables.{variables};
 ghost use Rattle.mp_pattern.specs.View.{pattern_tree};
 ghost use Rattle.mp_many.specs.Prefixes.{token_lists};
-ghost use Rattle.mp_many.specs.TokenView.{cut, read_token};
+ghost use Rattle.mp_many.specs.TokenView.{cut};
 
 use crate::names::RuleNames;
-use crate::token::{Token, TokenList};
+use crate::token::Token;
+use crate::tokens::{TokenList, Tokens};
 use mp_pattern::{Pattern, Rule, variable_number};
 use mp_term::{Memory, Names, Signature};
 use std::alloc::Global;
@@ -19,7 +20,7 @@ const ROOM_FOR_TOKENS: usize = 16;
 // The tokens of rules, those of one behind those of the other, and how many each rule has.
 #[derive(Drop)]
 pub(crate) struct RuleTokens<'a> {
-    pub(crate) tokens: Vec<Token<'a>>,
+    pub(crate) tokens: Tokens<'a>,
     pub(crate) counts: Vec<usize>,
 }
 
@@ -28,10 +29,9 @@ fn push_tokens<'a>(
     sig: &Signature,
     names: &'a Names,
     pattern: &'a Pattern,
-    out: &mut Vec<Token<'a>>,
+    out: &mut Tokens<'a>,
 ) -> Result<(), Memory>
-    ensures { OnOk result (map read_token out.new.items
-        ≡ map read_token out.old.items ++ tokens sig.now names.now (pattern_tree pattern.now)) }
+    ensures { OnOk result (out.new ≡ out.old ++ tokens sig.now names.now (pattern_tree pattern.now)) }
 {
     match pattern {
         Pattern::Sym(name) => out.push(Token::Sym(name))?,
@@ -62,11 +62,11 @@ pub(crate) fn rule_tokens<'a>(
     names: &'a RuleNames,
 ) -> Result<RuleTokens<'a>, Memory>
     requires { names.now ≡ map (λ r. variables r.pattern) (map rule_tree rules.now) }
-    ensures tokens { IfOk result (λ r. map read_token r.tokens.items
+    ensures tokens { IfOk result (λ r. r.tokens
         ≡ flat_map (λ ks. ks) (token_lists sig.now (map rule_tree rules.now))) }
     ensures counts { IfOk result (λ r. r.counts.items ≡ map length (token_lists sig.now (map rule_tree rules.now))) }
 {
-    let mut tokens = Vec::with_capacity(alloc, rules.len().saturating_mul(ROOM_FOR_TOKENS))?;
+    let mut tokens = Tokens::with_room(alloc, rules.len().saturating_mul(ROOM_FOR_TOKENS))?;
     let mut counts = Vec::with_capacity(alloc, rules.len())?;
     for (index, rule) in rules.iter().enumerate() {
         let before = tokens.len();
@@ -76,20 +76,22 @@ pub(crate) fn rule_tokens<'a>(
     Ok(RuleTokens { tokens, counts })
 }
 
-// The tokens in lists of so many each.
-pub(crate) fn cut<'a>(
+// The tokens, of which there are so many, in lists of so many each.
+pub(crate) fn cut<'l, 'a>(
     alloc: Global,
-    tokens: &'a [Token<'a>],
+    tokens: &'l Tokens<'a>,
+    most: usize,
     counts: &[usize],
-) -> Result<Vec<TokenList<'a>>, Memory>
-    requires { sum counts.now ≤ length tokens.now }
-    ensures { IfOk result (λ ls. ls.items ≡ cut counts.now (map read_token tokens.now)) }
+) -> Result<Vec<TokenList<'l, 'a>>, Memory>
+    requires most { most ≡ length tokens.now }
+    requires sum { sum counts.now ≤ length tokens.now }
+    ensures { IfOk result (λ ls. ls.items ≡ cut counts.now tokens.now) }
 {
     let mut lists = Vec::with_capacity(alloc, counts.len())?;
     let mut start = 0;
     for count in counts {
         let end = start + *count;
-        lists.push(TokenList::new(&tokens[start..end]))?;
+        lists.push(TokenList::new(tokens, start, end))?;
         start = end;
     }
     Ok(lists)

@@ -8,7 +8,8 @@ ghost use Rattle.mp_many.specs.Laid.{laid, unlinked, linked};
 ghost use Rattle.mp_many.specs.TokenView.{read_token};
 
 use crate::group::{Group, ended, groups_of};
-use crate::token::{Token, TokenList, to_net_token};
+use crate::token::to_net_token;
+use crate::tokens::TokenList;
 use mp_term::Memory;
 use mp_walk::{Instr, Instrs, Numbers};
 use std::alloc::Global;
@@ -26,7 +27,7 @@ fn next_number(states: &Instrs) -> Result<u32, Memory>
 // Adds the state of a group, which leads nowhere yet; `place` is the place behind the group's token.
 fn push_state(
     alloc: Global,
-    lists: &[TokenList<'_>],
+    lists: &[TokenList<'_, '_>],
     group: &Group<'_>,
     place: usize,
     states: &mut Instrs,
@@ -90,7 +91,7 @@ fn accepted(alloc: Global, number: u32, is_last: bool) -> Result<Numbers, Memory
 // Adds the states of the one list of the number, of which the tokens from the place on are taken, and so many at most.
 fn push_chain(
     alloc: Global,
-    tokens: &[Token<'_>],
+    list: &TokenList<'_, '_>,
     number: u32,
     place: usize,
     most: usize,
@@ -98,13 +99,14 @@ fn push_chain(
 ) -> Result<(), Memory>
     requires { place + most < 2 ^ 64 }
     ensures { OnOk result (states.new ≡ states.old
-        ++ laid most ((number, drop place (map read_token tokens.now)) ∷ []) (suc (length states.old))) }
+        ++ laid most ((number, drop place list.now) ∷ []) (suc (length states.old))) }
 {
-    let end = tokens.len().min(place + most);
+    let count = list.len();
+    let end = count.min(place + most);
     for index in place..end {
-        let token = to_net_token(alloc, &tokens[index])?;
+        let token = to_net_token(alloc, &list.at(index))?;
         let down = number_behind(states, index + 1 < end)?;
-        let accepts = accepted(alloc, number, index + 1 == tokens.len())?;
+        let accepts = accepted(alloc, number, index + 1 == count)?;
         states.push(Instr {
             token,
             down,
@@ -118,7 +120,7 @@ fn push_chain(
 // Adds the states of the lists of the numbers, of which the tokens from the place on are taken, and so many at most.
 pub(crate) fn push_states(
     alloc: Global,
-    lists: &[TokenList<'_>],
+    lists: &[TokenList<'_, '_>],
     numbers: &[u32],
     place: usize,
     most: usize,
@@ -133,8 +135,14 @@ pub(crate) fn push_states(
         return Ok(());
     }
     if let [number] = numbers {
-        let list = &lists[*number as usize];
-        return push_chain(alloc, list.as_slice(), *number, place, most, states);
+        return push_chain(
+            alloc,
+            &lists[*number as usize],
+            *number,
+            place,
+            most,
+            states,
+        );
     }
     let groups = groups_of(alloc, lists, numbers, place)?;
     for (index, group) in groups.iter().enumerate() {

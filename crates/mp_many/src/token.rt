@@ -1,5 +1,5 @@
 //! The tokens of the patterns of rules, read where they stand.
-ghost use Rattle.std.specs.Prelude.{◌≡◌, true, false, length, map, slice_get, IfOk, IfSome, IsTrue, option_map};
+ghost use Rattle.std.specs.Prelude.{◌≡◌, true, false, IfOk, IfSome, IsTrue};
 ghost use Rattle.mp_pattern.specs.NetTokens.{same_token, wild_token};
 ghost use Rattle.mp_pattern.specs.NetTokenView.{net_token};
 ghost use Rattle.mp_pattern.specs.PatternTree.{kind};
@@ -8,7 +8,6 @@ ghost use Rattle.mp_many.specs.TokenView.{read_token};
 use mp_pattern::{NetToken, Pattern, Shape, renamed, wild_token};
 use mp_term::{Memory, Name, Names, OpId};
 use std::alloc::Global;
-use std::marker::Model;
 
 // A token of a rule's pattern where it stands: a wildcard with the number of its variable, and an application of a
 // commutative operation with the variables of the whole pattern.
@@ -19,60 +18,6 @@ pub(crate) enum Token<'a> {
     Leave(OpId),
     Wild(&'a Shape, Option<u32>),
     Comm(&'a Pattern, &'a Names),
-}
-
-// The tokens of a rule, seen by contracts as the list of the plain ones.
-#[derive(Drop)]
-pub(crate) struct TokenList<'a> {
-    items: &'a [Token<'a>],
-}
-
-impl<'a> Model for TokenList<'a> {
-    ghost use Rattle.std.specs.Prelude.{List, map};
-    ghost use Rattle.std.specs.Coded.{coded_list};
-    ghost use Rattle.mp_pattern.specs.NetTokens as plain;
-    ghost use Rattle.mp_pattern.specs.NetTokenCode.{coded_net_token};
-
-    ghost Value = { List plain.NetToken };
-
-    ghost coded = { coded_list coded_net_token };
-
-    ghost use Rattle.mp_many.specs.TokenView.{read_token};
-
-    ghost view = { λ ts. map read_token ts.items.now };
-}
-
-impl<'a> TokenList<'a> {
-    // The list of these tokens.
-    pub(crate) fn new(items: &'a [Token<'a>]) -> Self
-        ensures { result ≡ map read_token items.now }
-    {
-        TokenList { items }
-    }
-
-    // The tokens in order.
-    pub(crate) fn as_slice(&self) -> &'a [Token<'a>]
-        ensures { map read_token result.now ≡ self.now }
-    {
-        self.items
-    }
-
-    // How many tokens there are.
-    pub(crate) fn len(&self) -> usize
-        ensures { result ≡ length self.now }
-    {
-        self.items.len()
-    }
-
-    // The token at the place, from 0. It is None exactly where the place isn't below the length.
-    pub(crate) fn get(&self, place: usize) -> Option<Token<'a>>
-        ensures { slice_get self.now place ≡ option_map read_token result }
-    {
-        match self.items.get(place) {
-            None => None,
-            Some(token) => Some(*token),
-        }
-    }
 }
 
 // The token with copies of its parts.

@@ -9,7 +9,7 @@ ghost use Rattle.mp_many.specs.Prefixes.{token_count};
 use crate::lists::{cut, rule_tokens};
 use crate::names::RuleNames;
 use crate::states::push_states;
-use crate::token::TokenList;
+use crate::tokens::TokenList;
 use mp_pattern::Rule;
 use mp_term::{Memory, Signature};
 use mp_walk::Instrs;
@@ -28,7 +28,7 @@ fn first_numbers(alloc: Global, count: usize) -> Result<Vec<u32>, Memory>
 }
 
 // The states of all lists, which have so many tokens together.
-fn states_of(alloc: Global, lists: &[TokenList<'_>], most: usize) -> Result<Instrs, Memory>
+fn states_of(alloc: Global, lists: &[TokenList<'_, '_>], most: usize) -> Result<Instrs, Memory>
     requires few { length lists.now < 2 ^ 32 }
     requires most { most ≡ token_count lists.now }
     ensures { IfOk result (λ is. is ≡ laid (token_count lists.now) (numbered_from 0 lists.now) 1) }
@@ -41,17 +41,18 @@ fn states_of(alloc: Global, lists: &[TokenList<'_>], most: usize) -> Result<Inst
 }
 
 // The table of the tree of the rules, whose variables have these names.
-pub(crate) fn tree_of(
+pub(crate) fn tree_of<'a>(
     alloc: Global,
     sig: &Signature,
-    rules: &[Rule],
-    names: &RuleNames,
+    rules: &'a [Rule],
+    names: &'a RuleNames,
 ) -> Result<Instrs, Memory>
     requires few { length rules.now < 2 ^ 32 }
     requires names { names.now ≡ map (λ r. variables r.pattern) (map rule_tree rules.now) }
     ensures { IfOk result (λ is. is ≡ tree_of sig.now (map rule_tree rules.now)) }
 {
     let all = rule_tokens(alloc, sig, rules, names)?;
-    let lists = cut(alloc, &all.tokens, &all.counts)?;
-    states_of(alloc, &lists, all.tokens.len())
+    let most = all.tokens.len();
+    let lists = cut(alloc, &all.tokens, most, &all.counts)?;
+    states_of(alloc, &lists, most)
 }

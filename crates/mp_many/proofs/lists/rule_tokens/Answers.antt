@@ -10,7 +10,6 @@ use Rattle.mp_pattern.specs.Variables.{variables}
 use Rattle.mp_pattern.specs.View.{pattern_tree}
 use Rattle.mp_pattern.specs.declared.rule.Rule as code
 use Rattle.mp_many.specs.Prefixes.{token_lists}
-use Rattle.mp_many.specs.TokenView.{read_token}
 use Rattle.mp_many.proofs.RuleNameLaws.{names-at}
 use Rattle.mp_many.proofs.lists.rule_tokens.Goals as goal
 
@@ -27,7 +26,7 @@ get-requires c =
 
 pub overflow_sub-len : goal.overflow_sub-len
 overflow_sub-len c =
-    let old = map read_token c.loop-index.tokens.items in
+    let old = c.loop-index.tokens in
     let own = tokens c.args.sig.now c.get.result.now (pattern_tree c.index-rules-index.result.pattern) in
     omega (
       arith,
@@ -35,8 +34,6 @@ overflow_sub-len c =
       c.len-before.ensures,
       ap length c.in_ok-push_tokens.ensures,
       length-append old own,
-      length-map c.loop-index.tokens.items read_token,
-      length-map c.push_tokens.new.out.items read_token,
     )
 
 pub loop-index-preserved : goal.loop-index-preserved
@@ -47,7 +44,7 @@ loop-index-preserved c =
     let rule = c.index-rules-index.result in
     let p = pattern_tree rule.pattern in
     let own = tokens_of sig p in
-    let old = map read_token c.loop-index.tokens.items in
+    let old = c.loop-index.tokens in
     let counts = c.loop-index.counts.items in
     let lists : List code.Rule → List (List NetToken) = λ rs. token_lists sig (map rule_tree rs) in
     let rest = lists (drop (i + 1) rules) in
@@ -55,7 +52,7 @@ loop-index-preserved c =
     let held = sym (get_or_from_slice_get c.args.names.now i c.get.result.now c.get.result.now c.get.ensures) in
     let named = names-at rules c.args.names.now i c.get.result.now rule c.loop-index-test.true c.requires held
     c.index-rules-index.is in
-    let pushed : map read_token c.push_tokens.new.out.items ≡ old ++ own =
+    let pushed : c.push_tokens.new.out ≡ old ++ own =
     c.in_ok-push_tokens.ensures ∙ ap (λ xs. old ++ tokens sig xs p) named in
     let size : c.len.result - c.len-before.result ≡ length own = omega (
       arith,
@@ -63,8 +60,6 @@ loop-index-preserved c =
       c.len-before.ensures,
       ap length pushed,
       length-append old own,
-      length-map c.loop-index.tokens.items read_token,
-      length-map c.push_tokens.new.out.items read_token,
     ) in
     record {
       tokens = ap (λ ks. ks ++ flat_map (λ l. l) rest) pushed ∙ append_assoc old own (flat_map (λ l. l) rest)

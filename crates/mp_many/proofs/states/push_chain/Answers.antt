@@ -1,33 +1,34 @@
-use Rattle.std.proofs.Common.{◌≡◌, ◌≤◌, ◌<◌, ◌∙◌, ◌+◌, ◌-◌, ◌++◌, [], ◌∷◌, suc, drop, get_or, length, map, sym}
+use Rattle.std.proofs.Common.{◌≡◌, ◌≤◌, ◌<◌, ◌∙◌, ◌+◌, ◌-◌, ◌++◌, [], ◌∷◌, suc, drop, get_or, length, sym}
 use Rattle.std.proofs.Common.{ap, arith, append-nil, nat_eq, nat_lt}
 use Rattle.std.specs.Prelude.{None, Some, if◌then◌else◌, min}
-use Rattle.std.proofs.lemmas.List.{get_or-map, length-map}
+use Rattle.std.proofs.lemmas.Option.{get_or_from_slice_get}
 use Rattle.mp_walk.specs.Instrs.{Instr}
 use Rattle.mp_many.specs.TokenView.{read_token}
 use Rattle.mp_many.proofs.ChainLaws.{chain, chain-past, chain-step}
 use Rattle.mp_many.proofs.states.push_chain.Goals as goal
 
+pub at-requires : goal.at-requires
+at-requires c = omega (arith, c.loop-index-test.true, c.min-end.ensures, c.len-count.ensures)
+
 pub loop-index-preserved : goal.loop-index-preserved
 loop-index-preserved c =
-    let tokens = c.args.tokens.now in
-    let ks = map read_token tokens in
+    let ks = c.args.list.now in
     let n = c.args.number in
     let i = c.loop-index.index in
     let end = c.min-end.result in
     let left = (c.args.place + c.args.most) - (i + 1) in
     let now = c.loop-index.states in
-    let t = c.index-tokens-index.result in
+    let t = c.at.result in
     let state : Instr = record {
       token = read_token t;
       down = c.in_ok-down.down;
       over = None;
       accepts = c.in_ok-accepts.accepts;
     } in
-    let whole = length-map tokens read_token in
-    let within : i < length tokens = omega (arith, c.loop-index-test.true, c.min-end.ensures) in
-    let inside : i < length ks = omega (arith, within, whole) in
+    let whole = c.len-count.ensures in
+    let inside : i < length ks = omega (arith, c.loop-index-test.true, c.min-end.ensures, whole) in
     let is : read_token t ≡ get_or ks i (read_token t) =
-    ap read_token c.index-tokens-index.is ∙ sym (get_or-map read_token tokens i t (read_token t) within) in
+    sym (get_or_from_slice_get ks i (read_token t) (read_token t) c.at.ensures) in
     let bound : end ≡ min (length ks) (suc i + left) =
     omega (arith, c.loop-index-test.true, c.min-end.ensures, whole) in
     let made : state ≡ record {
@@ -39,7 +40,7 @@ loop-index-preserved c =
       token = read_token t;
       down = c.in_ok-down.ensures j;
       over = None;
-      accepts = (c.in_ok-accepts.ensures ∙ ap (λ m. if nat_eq (i + 1) m then n ∷ [] else []) (sym whole)) j;
+      accepts = (c.in_ok-accepts.ensures ∙ ap (λ m. if nat_eq (i + 1) m then n ∷ [] else []) whole) j;
     } in
     let pushed : c.push.new.self ≡ now ++ state ∷ [] =
     c.in_ok-push.ensures.ok ∙ ap (λ k. now ++ record state { token = k } ∷ []) c.in_ok-token.ensures in
@@ -50,12 +51,11 @@ loop-index-preserved c =
 
 pub returns : goal.returns
 returns c =
-    let tokens = c.args.tokens.now in
-    let ks = map read_token tokens in
+    let ks = c.args.list.now in
     let i = c.loop-index.index in
     let left = (c.args.place + c.args.most) - i in
     let now = c.loop-index.states in
     let past : min (length ks) (i + left) ≤ i =
-    omega (arith, c.loop-index-test.false, c.min-end.ensures, length-map tokens read_token) in
+    omega (arith, c.loop-index-test.false, c.min-end.ensures, c.len-count.ensures) in
     sym (append-nil now)
     ∙ ap (λ is. now ++ is) (sym (chain-past ks c.args.number left i (suc (length now)) past)) ∙ c.loop-index.invariant
