@@ -112,8 +112,10 @@ pub(crate) fn print_to_come<O: Sink>(
     told
 }
 
-// Prints the matches of one rule on one subject, and says whether there are any.
-pub(crate) fn print_rule<O: Sink>(
+// Prints the matches of one rule on one subject, and says whether there are any. It is called where the rule may fit:
+// most rules don't, and the place that a cursor takes on the stack is made ready at each call.
+#[inline(never)]
+fn print_found<O: Sink>(
     alloc: Global,
     sig: &Signature,
     subject: &Subject,
@@ -134,13 +136,33 @@ pub(crate) fn print_rule<O: Sink>(
         plan,
         constants,
     } = planned;
-    if !may_fit(sig, plan.pattern(), &subject.term) {
-        return Ok(false);
-    }
     let table = Table::build(alloc, sig, &subject.term, constants)?;
     let room = room_for(alloc, plan, &table)?;
     let mut cursor = Cursor::begin(room, sig, *rule, plan, &table);
     print_to_come(alloc, subject, *rule, &mut cursor, left, out)
+}
+
+// Prints the matches of one rule on one subject, and says whether there are any.
+pub(crate) fn print_rule<O: Sink>(
+    alloc: Global,
+    sig: &Signature,
+    subject: &Subject,
+    planned: &PlannedRule<'_>,
+    left: &mut Left,
+    out: &mut O,
+) -> Result<bool, Stop>
+    requires planned { IsPlanned sig.now (rule_plan planned.now) }
+    requires subject { IsSoundSubject sig.now (subject_tree subject.now) }
+    requires writable { IsWritable left.old }
+    ensures prints { PrintsMatches (printed sig.now (left_of left.old)
+        (rule_matches sig.now (subject_tree subject.now) (planned_rule planned.now)))
+        (sunk O.Sink out.old out.new) (left_of left.new) result }
+    ensures writable { IsWritable left.new }
+{
+    if !may_fit(sig, planned.plan.pattern(), &subject.term) {
+        return Ok(false);
+    }
+    print_found(alloc, sig, subject, planned, left, out)
 }
 
 // Prints the matches of the rules on one subject, and says whether there are any.
