@@ -1,7 +1,7 @@
 -- An item put in where it belongs: what ascends still ascends, and all that was there is there. What ascends is no
 -- longer than a list that has all of it.
 use Rattle.std.proofs.Common.{◌≡◌, ◌∙◌, ℕ, zero, suc, ◌-◌, ◌<◌, ◌≤◌, List, [], ◌∷◌, length, get_or, drop, drop-cons}
-use Rattle.std.proofs.Common.{Bool, true, false, refl, ap, sym, subst, inl, inr, arith, ◌||◌}
+use Rattle.std.proofs.Common.{Bool, true, false, refl, ap, sym, subst, inl, inr, arith, ◌||◌, ◌+◌, set, take}
 use Rattle.std.specs.Prelude.{nat_lt}
 use Rattle.std.specs.declared.cmp.Ordering.{Ordering}
 use Rattle.std.specs.declared.cmp.Ordering.TheVariants.{Less, Equal, Greater}
@@ -12,8 +12,11 @@ use Rattle.std.specs.List.Sorted.{IsStrictlySortedBy}
 use Rattle.std.specs.Set.{is_member}
 use Rattle.std.proofs.lemmas.Bool.Decides.{nat_tests}
 use Rattle.std.proofs.lemmas.Cmp.{eq_by_cmp_equiv, tied_itself}
+use Rattle.std.proofs.lemmas.List.{get_or-set_other, get_or-take}
+use Rattle.std.proofs.lemmas.List.Edits.{get_or-insert_below}
 use Rattle.std.proofs.lemmas.Map.Keys.{IsDistinct-from_sorted, Less-from_sorted}
 use Rattle.std.proofs.lemmas.Map.Made.{length-le_from_is_member}
+use Rattle.std.proofs.Math.Seq.{take-set-lt}
 use Rattle.mp_term.specs.Listing.{In}
 use Rattle.mp_term.proofs.ListLaws.{all-also}
 
@@ -42,6 +45,38 @@ in-insert u x xs zero h = inr h
 in-insert u x [] (suc i) h = absurd h
 in-insert u x (y ∷ ys) (suc i) (inl e) = inl e
 in-insert u x (y ∷ ys) (suc i) (inr h) = inr (in-insert u x ys i h)
+
+-- what is written behind so many items is put in at their end
+pub take-set : {X : Type 0} (xs : List X) (n : ℕ) (x : X) → n < length xs
+    → take (n + 1) (set xs n x) ≡ insert (take n xs) n x
+take-set [] n x h = absurd (omega (arith, h))
+take-set (y ∷ ys) zero x h = refl
+take-set (y ∷ ys) (suc n) x h =
+    let more : suc n + 1 ≡ suc (n + 1) = omega arith in
+    rw more (ap (λ l. y ∷ l) (take-set ys n x (omega (arith, h))))
+
+set-insert : {X : Type 0} (xs : List X) (i : ℕ) (d x : X) → i < length xs
+    → set (insert xs (suc i) (get_or xs i d)) i x ≡ insert xs i x
+set-insert [] i d x h = absurd (omega (arith, h))
+set-insert (y ∷ ys) zero d x h = refl
+set-insert (y ∷ ys) (suc i) d x h = ap (λ l. y ∷ l) (set-insert ys i d x (omega (arith, h)))
+
+-- Among the first n + 1 items there is a gap among those of ys: it goes one place down where the item there goes up.
+pub gap-down : {X : Type 0} (xs ys : List X) (n end : ℕ) (d : X) → 0 < end → end ≤ n → end ≤ length ys
+    → ((x : X) → take (n + 1) (set xs end x) ≡ insert ys end x)
+    → (x : X) → take (n + 1) (set (set xs end (get_or xs (end - 1) d)) (end - 1) x) ≡ insert ys (end - 1) x
+gap-down xs ys n zero d some within long gap x = absurd (omega (arith, some))
+gap-down xs ys n (suc i) d some within long gap x =
+    let less : suc i - 1 ≡ i = omega arith in
+    let same : get_or xs i d ≡ get_or ys i d =
+    sym (get_or-set_other xs (suc i) i d d (λ e. absurd (omega (arith, e))))
+    ∙ sym (get_or-take (n + 1) (set xs (suc i) d) i d (omega (arith, within)))
+    ∙ ap (λ l. get_or l i d) (gap d)
+    ∙ get_or-insert_below ys (suc i) d d i (omega arith) long in
+    subst (λ j. take (n + 1) (set (set xs (suc i) (get_or xs j d)) j x) ≡ insert ys j x) (sym less)
+    (take-set-lt (n + 1) (set xs (suc i) (get_or xs i d)) i x (omega (arith, within))
+    ∙ ap (λ l. set l i x) (gap (get_or xs i d) ∙ ap (insert ys (suc i)) same)
+    ∙ set-insert ys i d x (omega (arith, long)))
 
 -- what holds of the items that pass a test, and of those that don't, holds of all
 pub all-both : {X : Type 0} (p : X → Bool) (P : X → Type 0) (xs : List X) → AllByRecursion (λ x. p x ≡ true → P x) xs

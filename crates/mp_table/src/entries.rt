@@ -65,11 +65,11 @@ fn entry_of(
     ensures entry { IfOk result (λ e. (us : List Tree) → AreRanks (shown text.now) us (ranks text.now) →
         IsEntryOf args.new.items us (slice_index_or (shown text.now) start (symbol [])) e) }
 {
-    let head = head_of(alloc, text[start].term)?;
     let from = args.len();
     push_ranks(args, text, start)?;
     let end = args.len();
     let nodes = u64::from(text[start].nodes);
+    let head = head_of(alloc, text[start].term)?;
     Ok(Entry {
         head,
         from,

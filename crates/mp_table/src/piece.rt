@@ -10,7 +10,7 @@ use mp_term::{Term, compare};
 use std::cmp::Ordering;
 
 // A subterm, and the place where it begins. Pieces compare by their terms alone.
-#[derive(Drop)]
+#[derive(Clone, Copy)]
 pub(crate) struct Piece<'a> {
     pub(crate) term: &'a Term,
     pub(crate) start: usize,

@@ -1,5 +1,5 @@
 //! The pieces of a text.
-ghost use Rattle.std.specs.Prelude.{◌≡◌, ◌<◌, ◌≤◌, ◌^◌, length, IfOk, IfSome, OnOk, slice_index_or, [], true};
+ghost use Rattle.std.specs.Prelude.{◌≡◌, ◌<◌, ◌≤◌, ◌^◌, ◌+◌, length, take, IfOk, IfSome, slice_index_or, [], true};
 ghost use Rattle.std.specs.Prelude.{None};
 ghost use Rattle.std.specs.List.{AllByRecursion, insert};
 ghost use Rattle.std.specs.List.Sorted.{IsStrictlySortedBy};
@@ -18,12 +18,11 @@ use mp_term::{Memory, Term, compare};
 use std::alloc::Global;
 use std::cmp::Ordering;
 
-// Pieces of a text, and for each place where such a piece is guessed to begin that has the same term: no place, where
-// each has a piece of its own.
+// Pieces of a text, and for each place where such a piece is guessed to begin that has the same term.
 #[derive(Drop)]
-struct Found<'a> {
-    pieces: Vec<Piece<'a>>,
-    firsts: Vec<usize>,
+pub(crate) struct Found<'a> {
+    pub(crate) pieces: Vec<Piece<'a>>,
+    pub(crate) firsts: Vec<usize>,
 }
 
 // Whether the term is a symbol.
@@ -56,77 +55,88 @@ fn place_of(pieces: &[Piece<'_>], term: &Term) -> Option<usize>
     Some(0)
 }
 
-// Puts a piece in at a place. At the end nothing has to move.
-fn put_piece<'a>(pieces: &mut Vec<Piece<'a>>, place: usize, piece: Piece<'a>) -> Result<(), Memory>
-    requires { place ≤ length pieces.old.items }
-    ensures { OnOk result (pieces.new.items ≡ insert pieces.old.items place piece.entry) }
+// Puts a piece in at a place among so many. Behind them stands room for it.
+fn put_piece<'a>(pieces: &mut [Piece<'a>], count: usize, place: usize, piece: Piece<'a>)
+    requires room { count < length pieces.old }
+    requires place { place ≤ count }
+    ensures room { length pieces.new ≡ length pieces.old }
+    ensures pieces { take (count + 1) pieces.new ≡ insert (take count pieces.old) place piece.entry }
 {
-    if place == pieces.len() {
-        pieces.push(piece)?;
-    } else {
-        pieces.insert(place, piece)?;
+    let mut end = count;
+    while end > place {
+        pieces[end] = pieces[end - 1];
+        end -= 1;
     }
-    Ok(())
+    pieces[place] = piece;
 }
 
-// Adds a piece for the subterm at a place to ascending pieces, if none of them has its term.
-fn add_piece<'a>(
-    pieces: &mut Vec<Piece<'a>>,
-    nodes: &[Node<'a>],
-    start: usize,
-) -> Result<(), Memory>
-    requires ascending { IsStrictlySortedBy tree_cmp (piece_terms pieces.old.items) }
-    requires pieces { AllByRecursion (IsPiece (shown nodes.now)) pieces.old.items }
+// Adds a piece for the subterm at a place to so many ascending pieces, if none of them has its term, and says how many
+// there are then.
+fn add_piece<'a>(pieces: &mut [Piece<'a>], count: usize, nodes: &[Node<'a>], start: usize) -> usize
+    requires room { length nodes.now ≤ length pieces.old }
+    requires count { count ≤ length pieces.old }
+    requires ascending { IsStrictlySortedBy tree_cmp (piece_terms (take count pieces.old)) }
+    requires pieces { AllByRecursion (IsPiece (shown nodes.now)) (take count pieces.old) }
     requires start { start < length nodes.now }
-    ensures ascending { OnOk result (IsStrictlySortedBy tree_cmp (piece_terms pieces.new.items)) }
-    ensures pieces { OnOk result (AllByRecursion (IsPiece (shown nodes.now)) pieces.new.items) }
-    ensures kept { OnOk result
-        ((u : Tree) → In u (piece_terms pieces.old.items) → In u (piece_terms pieces.new.items)) }
-    ensures there { OnOk result
-        (In (slice_index_or (shown nodes.now) start (symbol [])) (piece_terms pieces.new.items)) }
+    ensures room { length pieces.new ≡ length pieces.old }
+    ensures count { result ≤ length pieces.new }
+    ensures ascending { IsStrictlySortedBy tree_cmp (piece_terms (take result pieces.new)) }
+    ensures pieces { AllByRecursion (IsPiece (shown nodes.now)) (take result pieces.new) }
+    ensures kept { (u : Tree) →
+        In u (piece_terms (take count pieces.old)) → In u (piece_terms (take result pieces.new)) }
+    ensures there { In (slice_index_or (shown nodes.now) start (symbol [])) (piece_terms (take result pieces.new)) }
 {
     let term = nodes[start].term;
-    if let Some(place) = place_of(pieces, term) {
-        put_piece(pieces, place, Piece { term, start })?;
+    match place_of(&pieces[..count], term) {
+        None => count,
+        Some(place) => {
+            put_piece(pieces, count, place, Piece { term, start });
+            count + 1
+        }
     }
-    Ok(())
 }
 
-// Adds a piece for each subterm that is a symbol, or for each that is none, to ascending pieces.
+// Adds a piece for each subterm that is a symbol, or for each that is none, to so many ascending pieces, and says how
+// many there are then.
 fn add_pieces<'a>(
-    pieces: &mut Vec<Piece<'a>>,
+    pieces: &mut [Piece<'a>],
+    count: usize,
     nodes: &[Node<'a>],
     symbols: bool,
-) -> Result<(), Memory>
-    requires ascending { IsStrictlySortedBy tree_cmp (piece_terms pieces.old.items) }
-    requires pieces { AllByRecursion (IsPiece (shown nodes.now)) pieces.old.items }
-    ensures ascending { OnOk result (IsStrictlySortedBy tree_cmp (piece_terms pieces.new.items)) }
-    ensures pieces { OnOk result (AllByRecursion (IsPiece (shown nodes.now)) pieces.new.items) }
-    ensures kept { OnOk result
-        ((u : Tree) → In u (piece_terms pieces.old.items) → In u (piece_terms pieces.new.items)) }
-    ensures all { OnOk result
-        (AllByRecursion
-        (λ n. is_symbol (tree n.term.now) ≡ symbols → In (tree n.term.now) (piece_terms pieces.new.items))
-        nodes.now) }
+) -> usize
+    requires room { length nodes.now ≤ length pieces.old }
+    requires count { count ≤ length pieces.old }
+    requires ascending { IsStrictlySortedBy tree_cmp (piece_terms (take count pieces.old)) }
+    requires pieces { AllByRecursion (IsPiece (shown nodes.now)) (take count pieces.old) }
+    ensures room { length pieces.new ≡ length pieces.old }
+    ensures count { result ≤ length pieces.new }
+    ensures ascending { IsStrictlySortedBy tree_cmp (piece_terms (take result pieces.new)) }
+    ensures pieces { AllByRecursion (IsPiece (shown nodes.now)) (take result pieces.new) }
+    ensures kept { (u : Tree) →
+        In u (piece_terms (take count pieces.old)) → In u (piece_terms (take result pieces.new)) }
+    ensures all { AllByRecursion
+        (λ n. is_symbol (tree n.term.now) ≡ symbols → In (tree n.term.now) (piece_terms (take result pieces.new)))
+        nodes.now }
 {
+    let mut all = count;
     for (start, node) in nodes.iter().enumerate() {
         if is_symbol(node.term) != symbols {
             continue;
         }
-        add_piece(pieces, nodes, start)?;
+        all = add_piece(pieces, all, nodes, start);
     }
-    Ok(())
+    all
 }
 
-// A piece for each distinct subterm, ascending, where there are few. Symbols are put in first, as they come first in
-// the term order.
-fn few_pieces<'a>(alloc: Global, nodes: &[Node<'a>]) -> Result<Vec<Piece<'a>>, Memory>
-    ensures { IfOk result (λ ps. ArePieces (shown nodes.now) ps.items) }
+// Makes the first pieces one for each distinct subterm, ascending, and says how many these are. Symbols are put in
+// first, as they come first in the term order.
+pub(crate) fn few_pieces<'a>(pieces: &mut [Piece<'a>], nodes: &[Node<'a>]) -> usize
+    requires { length nodes.now ≤ length pieces.old }
+    ensures count { result ≤ length pieces.new }
+    ensures pieces { ArePieces (shown nodes.now) (take result pieces.new) }
 {
-    let mut pieces = Vec::with_capacity(alloc, nodes.len())?;
-    add_pieces(&mut pieces, nodes, true)?;
-    add_pieces(&mut pieces, nodes, false)?;
-    Ok(pieces)
+    let symbols = add_pieces(pieces, 0, nodes, true);
+    add_pieces(pieces, symbols, nodes, false)
 }
 
 // Whether the piece at a place has that term.
@@ -164,29 +174,13 @@ fn new_pieces<'a>(alloc: Global, nodes: &[Node<'a>]) -> Result<Found<'a>, Memory
 }
 
 // A piece for each distinct subterm, ascending, where there are many.
-fn many_pieces<'a>(alloc: Global, nodes: &[Node<'a>]) -> Result<Found<'a>, Memory>
+pub(crate) fn many_pieces<'a>(alloc: Global, nodes: &[Node<'a>]) -> Result<Found<'a>, Memory>
     ensures { IfOk result (λ f. ArePieces (shown nodes.now) f.pieces.items) }
 {
     let mut found = new_pieces(alloc, nodes)?;
     found.pieces.sort()?;
     found.pieces.dedup();
     Ok(found)
-}
-
-// The pieces of so few places are put in one by one.
-const FEW: usize = 40;
-
-// A piece for each distinct subterm, ascending.
-fn found_pieces<'a>(alloc: Global, nodes: &[Node<'a>]) -> Result<Found<'a>, Memory>
-    ensures { IfOk result (λ f. ArePieces (shown nodes.now) f.pieces.items) }
-{
-    if nodes.len() > FEW {
-        return many_pieces(alloc, nodes);
-    }
-    Ok(Found {
-        pieces: few_pieces(alloc, nodes)?,
-        firsts: Vec::new(alloc),
-    })
 }
 
 // Tells the ranks of the places where the pieces begin.
@@ -228,40 +222,22 @@ fn rank_of(pieces: &[Piece<'_>], term: &Term, guess: usize) -> Rank
     }
 }
 
-// Tells the rank of the subterm at each place.
-fn tell_ranks(nodes: &mut [Node<'_>], found: &Found<'_>)
-    requires pieces { ArePieces (shown nodes.old) found.now.pieces.items }
-    requires short { length found.now.pieces.items < 2 ^ 32 }
+// Tells the rank of the subterm at each place, where the subterms at the firsts are guessed to be those at the places.
+pub(crate) fn tell_ranks(nodes: &mut [Node<'_>], pieces: &[Piece<'_>], firsts: &[usize])
+    requires pieces { ArePieces (shown nodes.old) pieces.now }
+    requires short { length pieces.now < 2 ^ 32 }
     requires unranked { AreUnranked nodes.old }
     ensures terms { shown nodes.new ≡ shown nodes.old }
     ensures nodes { counts nodes.new ≡ counts nodes.old }
-    ensures ranks { AreRanks (shown nodes.old) (piece_terms found.now.pieces.items) (ranks nodes.new) }
+    ensures ranks { AreRanks (shown nodes.old) (piece_terms pieces.now) (ranks nodes.new) }
 {
-    own_ranks(nodes, &found.pieces);
+    own_ranks(nodes, pieces);
     let mut place = 0;
     while place < nodes.len() {
-        if nodes[place].rank as usize >= found.pieces.len() {
-            let guess = guess_at(nodes, &found.firsts, place);
-            nodes[place].rank = rank_of(&found.pieces, nodes[place].term, guess).0;
+        if nodes[place].rank as usize >= pieces.len() {
+            let guess = guess_at(nodes, firsts, place);
+            nodes[place].rank = rank_of(pieces, nodes[place].term, guess).0;
         }
         place += 1;
     }
-}
-
-// A piece for each distinct subterm, ascending. The ranks of all places are told.
-pub(crate) fn distinct_pieces<'a>(
-    alloc: Global,
-    nodes: &mut [Node<'a>],
-) -> Result<Vec<Piece<'a>>, Memory>
-    requires short { length nodes.old < 2 ^ 32 }
-    requires unranked { AreUnranked nodes.old }
-    ensures terms { shown nodes.new ≡ shown nodes.old }
-    ensures nodes { counts nodes.new ≡ counts nodes.old }
-    ensures pieces { IfOk result (λ ps. ArePieces (shown nodes.old) ps.items) }
-    ensures few { IfOk result (λ ps. length ps.items ≤ length nodes.old) }
-    ensures ranks { IfOk result (λ ps. AreRanks (shown nodes.old) (piece_terms ps.items) (ranks nodes.new)) }
-{
-    let found = found_pieces(alloc, nodes)?;
-    tell_ranks(nodes, &found);
-    Ok(found.pieces)
 }

@@ -1,5 +1,5 @@
 //! The subterms of terms in preorder, a subterm as often as it occurs.
-ghost use Rattle.std.specs.Prelude.{◌≡◌, ◌+◌, ◌^◌, ◌<◌, ◌++◌, map, length, OnOk, IfOk, ◌∷◌};
+ghost use Rattle.std.specs.Prelude.{◌≡◌, ◌+◌, ◌^◌, ◌<◌, ◌++◌, map, length, OnOk, IfOk, ◌∷◌, []};
 ghost use Rattle.mp_term.specs.View.{tree};
 ghost use Rattle.mp_term.specs.Size.{node_count, all_nodes};
 ghost use Rattle.mp_table.specs.Subterms.{arguments};
@@ -9,6 +9,21 @@ ghost use Rattle.mp_table.specs.Text.{shown, counts, AreUnranked};
 use crate::node::Node;
 use mp_term::{Memory, Term, Terms};
 use std::alloc::Global;
+
+// Adds a term alone.
+fn push_node<'a>(found: &mut Vec<Node<'a>>, term: &'a Term) -> Result<(), Memory>
+    requires { AreUnranked found.old.items }
+    ensures terms { OnOk result (shown found.new.items ≡ shown found.old.items ++ tree term.now ∷ []) }
+    ensures nodes { OnOk result (counts found.new.items ≡ counts found.old.items ++ 1 ∷ []) }
+    ensures unranked { OnOk result (AreUnranked found.new.items) }
+{
+    found.push(Node {
+        term,
+        nodes: 1,
+        rank: u32::MAX,
+    })?;
+    Ok(())
+}
 
 // Adds a term and its subterms.
 #[cycle(push_subterms)]
@@ -21,18 +36,9 @@ fn push_subterms<'a>(found: &mut Vec<Node<'a>>, term: &'a Term) -> Result<(), Me
     ensures unranked { OnOk result (AreUnranked found.new.items) }
 {
     let start = found.len();
-    found.push(Node {
-        term,
-        nodes: 1,
-        rank: u32::MAX,
-    })?;
+    push_node(found, term)?;
     push_arguments(found, term)?;
-    let nodes = (found.len() - start) as u32;
-    found[start] = Node {
-        term,
-        nodes,
-        rank: u32::MAX,
-    };
+    found[start].nodes = (found.len() - start) as u32;
     Ok(())
 }
 
@@ -50,7 +56,10 @@ fn push_arguments<'a>(found: &mut Vec<Node<'a>>, term: &'a Term) -> Result<(), M
 {
     if let Term::App(_, args) = term {
         for arg in args.as_slice() {
-            push_subterms(found, arg)?;
+            match arg {
+                Term::Sym(_) => push_node(found, arg)?,
+                Term::App(_, _) => push_subterms(found, arg)?,
+            }
         }
     }
     Ok(())

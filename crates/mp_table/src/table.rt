@@ -1,23 +1,34 @@
 //! Tables of terms.
-ghost use Rattle.std.specs.Prelude.{◌≡◌, ◌≤◌, ◌<◌, [], ◌∷◌, map, length, IfOk};
+ghost use Rattle.std.specs.Prelude.{◌≡◌, ◌≤◌, ◌<◌, ◌^◌, [], ◌∷◌, map, length, IfOk, Some, slice_get};
+ghost use Rattle.std.specs.Prelude.{slice_index_or, List};
 ghost use Rattle.std.specs.List.{AllByRecursion};
+ghost use Rattle.mp_term.specs.Tree.{symbol};
 ghost use Rattle.mp_term.specs.View.{tree};
 ghost use Rattle.mp_term.specs.Normal.{IsNormal};
 ghost use Rattle.mp_term.specs.Size.{node_count, all_nodes};
 ghost use Rattle.mp_table.specs.Subterms.{arguments};
 ghost use Rattle.mp_table.specs.Table.{term_at, terms_at, HasRank, HasRanks, IsTable, IsTableOf};
 ghost use Rattle.mp_table.specs.Reading.{IsHeadOf};
+ghost use Rattle.mp_table.specs.Pieces.{piece_terms, ArePieces};
+ghost use Rattle.mp_table.specs.declared.piece.Piece.{Piece};
+ghost use Rattle.mp_table.specs.declared.table.TheConstants.{FEW};
+ghost use Rattle.mp_table.specs.Text.{shown, AreUnranked, IsText};
 
 use crate::entries::entries_of;
 use crate::entry::{Entry, OwnHead};
 use crate::limits::MAX_CONSTANT_NODES;
-use crate::pieces::distinct_pieces;
+use crate::node::Node;
+use crate::piece::Piece;
+use crate::pieces::{few_pieces, many_pieces, tell_ranks};
 use crate::preorder::collect;
 use crate::rank::{Head, Rank};
 use mp_term::{MAX_TERM_NODES, Memory, Signature, Term, Terms};
 use std::alloc::Global;
 use std::marker::Model;
 use std::slice;
+
+// The pieces of so few places are put in one by one.
+const FEW: usize = 40;
 
 /// The distinct subterms of a subject and of constants, ranked from 0 in the term order. Contracts see it as the record
 /// `Table` of `specs/Table.antt`, which holds the ascending list of these terms and the subject's rank. `IsTable` says
@@ -73,9 +84,53 @@ impl Table {
         // The table is the same over each signature.
         let _ = sig;
         let mut text = collect(alloc, subject, constants)?;
-        let pieces = distinct_pieces(alloc, &mut text)?;
+        if text.len() <= FEW {
+            return Table::of_few(alloc, &mut text);
+        }
+        let found = many_pieces(alloc, &text)?;
+        Table::of_pieces(alloc, &mut text, &found.pieces, &found.firsts)
+    }
+
+    // The table of the terms of a text of few places, whose first subterm is its root.
+    fn of_few(alloc: Global, text: &mut [Node<'_>]) -> Result<Table, Memory>
+        requires text { IsText text.old }
+        requires some { 0 < length text.old }
+        requires few { length text.old ≤ FEW }
+        requires unranked { AreUnranked text.old }
+        ensures terms { IfOk result
+            (λ t. (ps : List Piece) × ArePieces (shown text.old) ps × (t.terms ≡ piece_terms ps)) }
+        ensures root { IfOk result
+            (λ t. slice_get t.terms t.root ≡ Some (slice_index_or (shown text.old) 0 (symbol []))) }
+    {
+        let none = Piece {
+            term: text[0].term,
+            start: 0,
+        };
+        let mut pieces = [none; FEW];
+        let count = few_pieces(&mut pieces, text);
+        Table::of_pieces(alloc, text, &pieces[..count], &[])
+    }
+
+    // The table of the terms of the pieces of a text, whose first subterm is its root. At each place the subterm is
+    // guessed to be that at the place among the firsts.
+    fn of_pieces(
+        alloc: Global,
+        text: &mut [Node<'_>],
+        pieces: &[Piece<'_>],
+        firsts: &[usize],
+    ) -> Result<Table, Memory>
+        requires text { IsText text.old }
+        requires some { 0 < length text.old }
+        requires short { length text.old < 2 ^ 32 }
+        requires unranked { AreUnranked text.old }
+        requires pieces { ArePieces (shown text.old) pieces.now }
+        ensures terms { IfOk result (λ t. t.terms ≡ piece_terms pieces.now) }
+        ensures root { IfOk result
+            (λ t. slice_get t.terms t.root ≡ Some (slice_index_or (shown text.old) 0 (symbol []))) }
+    {
+        tell_ranks(text, pieces, firsts);
         let root = Rank(text[0].rank);
-        let made = entries_of(alloc, &text, &pieces)?;
+        let made = entries_of(alloc, text, pieces)?;
         Ok(Table {
             entries: made.entries,
             args: made.args,

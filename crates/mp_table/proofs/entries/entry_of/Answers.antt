@@ -25,11 +25,12 @@ returns-clause-entry c = λ us are.
     sym (take_all (length new - length old) (drop (length old) new) (omega (arith, length-drop (length old) new)))
     ∙ (λ i. slice_range new (sym from i) (sym end i)) in
     let text = c.args.text.now in
-    let node = get_or text c.args.start c.index-text-start.result in
+    let node = get_or text c.args.start c.index-text-start-2.result in
     let here : c.args.start < length (shown text) =
     omega (arith, c.requires.start, length-map text (λ n. tree n.term.now)) in
     let same : tree node.term.now ≡ term_in (shown text) c.args.start =
-    sym (get_or-map (λ n. tree n.term.now) text c.args.start c.index-text-start.result (symbol []) c.requires.start) in
+    sym (get_or-map (λ n. tree n.term.now) text c.args.start c.index-text-start-2.result (symbol [])
+    c.requires.start) in
     let args = subst (λ l. map (λ r. get_or us r.0 (symbol [])) l
     ≡ arguments (term_in (shown text) c.args.start)) part (c.in_ok-push_ranks.ensures.terms us are) in
     record {
@@ -40,6 +41,6 @@ returns-clause-entry c = λ us are.
       begins = omega (arith, from, end, more);
       ends = omega (arith, end);
       nodes = c.from-nodes.ensures
-          ∙ count_at text c.args.start c.index-text-start-2.result c.requires.start
+          ∙ count_at text c.args.start c.index-text-start.result c.requires.start
           ∙ nodes_at text c.requires.text c.args.start here;
     }

@@ -1,4 +1,4 @@
-use Rattle.std.proofs.Common.{◌≡◌, [], take, subst}
+use Rattle.std.proofs.Common.{◌≡◌, ◌∙◌, [], take, subst}
 use Rattle.std.proofs.lemmas.List.{get_or-map}
 use Rattle.mp_term.specs.Listing.{In}
 use Rattle.mp_term.specs.Tree.{symbol}
@@ -13,10 +13,12 @@ loop-start-preserved c =
     let nodes = c.args.nodes.now in
     let start = c.loop-start.start in
     let node = c.index-nodes-start.result in
-    let us = piece_terms c.loop-start.pieces.items in
-    let vs = piece_terms c.add_piece.new.pieces.items in
-    let added = c.in_ok-add_piece.ensures in
+    let us = piece_terms (take c.loop-start.all c.loop-start.pieces) in
+    let vs = piece_terms (take c.add_piece-all.result c.add_piece-all.new.pieces) in
+    let added = c.add_piece-all.ensures in
     record {
+      room = added.room ∙ c.loop-start.invariant.room;
+      count = added.count;
       ascending = added.ascending;
       pieces = added.pieces;
       kept = λ u h. added.kept u (c.loop-start.invariant.kept u h);

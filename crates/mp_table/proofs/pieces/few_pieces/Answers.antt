@@ -1,4 +1,4 @@
-use Rattle.std.proofs.Common.{◌≡◌, true, ap}
+use Rattle.std.proofs.Common.{◌≡◌, [], true, take, refl}
 use Rattle.mp_term.specs.Listing.{In}
 use Rattle.mp_term.specs.Order.{tree_cmp}
 use Rattle.mp_term.specs.View.{tree}
@@ -8,16 +8,16 @@ use Rattle.mp_table.proofs.Distinct.{from-keys}
 use Rattle.mp_table.proofs.Inserted.{all-both, none_ascend}
 use Rattle.mp_table.proofs.pieces.few_pieces.Goals as goal
 
-pub add_pieces-requires-clause-ascending : goal.add_pieces-requires-clause-ascending
-add_pieces-requires-clause-ascending c = none_ascend tree_cmp _ (ap piece_terms c.in_ok-pieces.ensures.items)
+pub add_pieces-symbols-requires-clause-ascending : goal.add_pieces-symbols-requires-clause-ascending
+add_pieces-symbols-requires-clause-ascending c = none_ascend tree_cmp [] refl
 
-pub returns : goal.returns
-returns c =
+pub returns-clause-pieces : goal.returns-clause-pieces
+returns-clause-pieces c =
     let nodes = c.args.nodes.now in
-    let us = piece_terms c.add_pieces.new.pieces.items in
-    let vs = piece_terms c.add_pieces-2.new.pieces.items in
-    let symbols = c.in_ok-add_pieces.ensures in
-    let all = c.in_ok-add_pieces-2.ensures in
+    let us = piece_terms (take c.add_pieces-symbols.result c.add_pieces-symbols.new.pieces) in
+    let vs = piece_terms (take c.add_pieces.result c.add_pieces.new.pieces) in
+    let symbols = c.add_pieces-symbols.ensures in
+    let all = c.add_pieces.ensures in
     record {
       ascending = all.ascending;
       pieces = all.pieces;

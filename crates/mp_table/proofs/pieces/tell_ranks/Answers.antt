@@ -1,4 +1,4 @@
-use Rattle.std.proofs.Common.{◌≡◌, ◌∙◌, ℕ, ◌+◌, ◌<◌, List, [], length, get_or, ap, sym, subst, refl, arith}
+use Rattle.std.proofs.Common.{◌≡◌, ◌∙◌, ℕ, ◌+◌, ◌<◌, [], length, get_or, ap, sym, subst, refl, arith}
 use Rattle.std.proofs.Math.Seq.{map-set_same}
 use Rattle.std.proofs.lemmas.List.{get_or-map, map-set, length-map}
 use Rattle.mp_term.specs.Listing.{In}
@@ -7,7 +7,6 @@ use Rattle.mp_term.specs.View.{tree}
 use Rattle.mp_table.specs.Pieces.{piece_terms, AreSomeRanks}
 use Rattle.mp_table.specs.Text.{shown, ranks}
 use Rattle.mp_table.specs.declared.node.Node.{Node}
-use Rattle.mp_table.specs.declared.piece.Piece.{Piece}
 use Rattle.mp_table.proofs.Distinct.{in-place}
 use Rattle.mp_table.proofs.RankedLaws.{some_ranks-set, within-more, within-set}
 use Rattle.mp_table.proofs.pieces.tell_ranks.Goals as goal
@@ -23,20 +22,18 @@ rank_of-requires-clause-there c =
     let is : tree (get_or nodes place d).term.now ≡ get_or ts place (symbol []) =
     sym (get_or-map (λ n. tree n.term.now) nodes place d (symbol []) c.loop-place-test.true)
     ∙ ap (λ l. get_or l place (symbol [])) terms in
-    subst (λ (ps : List Piece). In (tree (get_or nodes place d).term.now) (piece_terms ps))
-    (sym c.deref-then-nodes-place-2.ensures.value)
-    (c.requires.pieces.all _ (subst (λ u. In u ts) (sym is) (in-place ts place (symbol []) (omega (
+    c.requires.pieces.all _ (subst (λ u. In u ts) (sym is) (in-place ts place (symbol []) (omega (
       arith,
       c.loop-place-test.true,
       length-map nodes (λ n. tree n.term.now),
       ap length terms,
-    )))))
+    ))))
 
 pub loop-place-preserved : goal.loop-place-preserved
 loop-place-preserved c =
     let nodes = c.loop-place.nodes in
     let ts = shown c.args.nodes.now in
-    let ps = c.args.found.now.pieces.items in
+    let ps = c.args.pieces.now in
     let us = piece_terms ps in
     let place = c.loop-place.place in
     let known = c.loop-place.invariant in
@@ -49,13 +46,11 @@ loop-place-preserved c =
           let e = w.index-nodes-place-then-nodes-place-2.result in
           let new : Node =
           record { term = (get_or nodes place e).term; nodes = (get_or nodes place e).nodes; rank = rank } in
-          let same = w.deref-then-nodes-place-2.ensures.value in
           let is : get_or us rank (symbol []) ≡ get_or ts place (symbol []) =
-          subst (λ (l : List Piece). get_or (piece_terms l) rank (symbol []) ≡ tree (get_or nodes place d).term.now)
-          same w.rank_of.ensures.term
+          w.rank_of.ensures.term
           ∙ sym (get_or-map (λ n. tree n.term.now) nodes place d (symbol []) there)
           ∙ ap (λ l. get_or l place (symbol [])) known.terms in
-          let below : rank < length us = omega (arith, w.rank_of.ensures.within, ap length same, many) in
+          let below : rank < length us = omega (arith, w.rank_of.ensures.within, many) in
           let told = map-set (λ n. n.rank) nodes place new in
           rw w.nodes-is (record {
             terms = map-set_same (λ n. tree n.term.now) nodes place new e refl ∙ known.terms;
@@ -73,7 +68,7 @@ loop-place-preserved c =
       | else-nodes-place w ↦
           let d = c.index-nodes-place.result in
           let own : (get_or nodes place d).rank < length us =
-          omega (arith, w.if-nodes-place.false, c.len.ensures, c.args.found.now.pieces.ok.0, many) in
+          omega (arith, w.if-nodes-place.false, many) in
           rw w.nodes-is (record {
             terms = known.terms;
             nodes = known.nodes;

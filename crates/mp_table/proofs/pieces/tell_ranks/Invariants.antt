@@ -7,8 +7,8 @@ abbrev pub invariant-loop-place : goal.invariant-loop-place
 invariant-loop-place l = record {
   terms : shown l.nodes ≡ shown l.fn.nodes;
   nodes : counts l.nodes ≡ counts l.fn.nodes;
-  some : AreSomeRanks (shown l.fn.nodes) (piece_terms l.found.pieces.items) (ranks l.nodes);
-  within : (i d : ℕ) → i < l.place → get_or (ranks l.nodes) i d < length (piece_terms l.found.pieces.items);
+  some : AreSomeRanks (shown l.fn.nodes) (piece_terms l.pieces) (ranks l.nodes);
+  within : (i d : ℕ) → i < l.place → get_or (ranks l.nodes) i d < length (piece_terms l.pieces);
 }
 
 abbrev pub decreases-loop-place : goal.decreases-loop-place

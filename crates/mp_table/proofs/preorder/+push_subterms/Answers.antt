@@ -1,8 +1,8 @@
 use Rattle.std.proofs.Common.{◌≡◌, ◌∙◌, ℕ, ◌+◌, ◌-◌, ◌^◌, ◌<◌, ◌≤◌, List, ◌++◌, ◌∷◌, [], map, length, sym, ap, refl}
 use Rattle.std.proofs.Common.{drop, get_or, arith, append_assoc, subst}
 use Rattle.std.proofs.Common.{length-append, set}
-use Rattle.std.proofs.lemmas.List.{map_push, map-set, set_at, length-map}
-use Rattle.std.proofs.lemmas.List.Elements.{All-push, All-set}
+use Rattle.std.proofs.Math.Seq.{map-set_same}
+use Rattle.std.proofs.lemmas.List.{map-set, set_at, length-map}
 use Rattle.std.specs.List.{All}
 use Rattle.mp_term.specs.Tree.{Tree}
 use Rattle.mp_term.specs.TreeLists.{tree_list-trees}
@@ -14,7 +14,7 @@ use Rattle.mp_term.specs.View.{tree}
 use Rattle.mp_term.specs.Size.{node_count, all_nodes}
 use Rattle.mp_table.specs.Preorder.{preorder, all_preorder}
 use Rattle.mp_table.specs.Subterms.{arguments}
-use Rattle.mp_table.specs.Text.{shown, counts, ranks}
+use Rattle.mp_table.specs.Text.{shown, counts}
 use Rattle.mp_table.specs.declared.node.Node.{Node}
 use Rattle.mp_table.proofs.PreorderLaws.{preorder_is, node_count_is, length-all_preorder, at_end, next_within}
 use Rattle.mp_table.proofs.preorder.+push_subterms.Goals as goal
@@ -22,15 +22,20 @@ use Rattle.mp_table.proofs.preorder.+push_subterms.Goals as goal
 pub push_subterms-push_arguments-requires : goal.push_subterms-push_arguments-requires
 push_subterms-push_arguments-requires t c =
     let old = c.args.found.now.items in
-    let first : Node = record { term = c.args.term; nodes = 1; rank = 4294967295 } in
-    let own = node_count_is (tree c.args.term.now) in
-    let long = ap length c.in_ok-push.ensures.items in (
+    let new = c.push_node.new.found.items in
+    let own = node_count_is (tree c.args.term.now) in (
       omega (arith, c.decreases),
       (
-        omega (arith, own, long, length-append old (first ∷ []), c.requires.short),
-        subst (All (λ r. 2 ^ 32 ≤ r + 1))
-            (sym (ap ranks c.in_ok-push.ensures.items ∙ map_push (λ n. n.rank) old first))
-            (All-push (λ r. 2 ^ 32 ≤ r + 1) (ranks old) 4294967295 c.requires.unranked (omega arith)),
+        omega (
+          arith,
+          own,
+          ap length c.in_ok-push_node.ensures.nodes,
+          length-append (counts old) (1 ∷ []),
+          length-map old (λ n. n.nodes),
+          length-map new (λ n. n.nodes),
+          c.requires.short,
+        ),
+        c.in_ok-push_node.ensures.unranked,
       ),
     )
 
@@ -62,35 +67,25 @@ counted old ms new t start count e h s l =
     ∙ ap (λ n. old ++ n ∷ rest) own
     ∙ ap (λ ts. old ++ map node_count ts) (sym (preorder_is t))
 
--- what the list of subterms becomes
-grown : (old ms new : List Tree) (t : Tree) (start : ℕ) → ms ≡ old ++ t ∷ []
-    → new ≡ ms ++ all_preorder (arguments t) → start ≡ length old → set new start t ≡ old ++ preorder t
-grown old ms new t start e h s =
-    let rest = all_preorder (arguments t) in
-    ap (λ ts. set ts start t) (h ∙ ap (λ ts. ts ++ rest) e ∙ append_assoc old (t ∷ []) rest)
-    ∙ set_at old t rest t start (sym s)
-    ∙ ap (λ ts. old ++ ts) (sym (preorder_is t))
-
 pub push_subterms-returns-clause-terms : goal.push_subterms-returns-clause-terms
 push_subterms-returns-clause-terms t c =
     let old = c.args.found.now.items in
     let own = tree c.args.term.now in
-    let first : Node = record { term = c.args.term; nodes = 1; rank = 4294967295 } in
-    let new = c.push_arguments.new.found.items in
-    let start = c.len-start.result in
-    map-set (λ n. tree n.term.now) new start (record { term = c.args.term; nodes = _; rank = 4294967295 })
-    ∙ grown (shown old) (shown c.push.new.self.items) (shown new) own start
-    (ap shown c.in_ok-push.ensures.items ∙ map_push (λ n. tree n.term.now) old first)
-    c.in_ok-push_arguments.ensures.terms
-    (c.len-start.ensures ∙ c.args.found.now.ok.0 ∙ sym (length-map old (λ n. tree n.term.now)))
+    let first = c.index_mut.result.now in
+    let counted : Node = record { term = first.term; nodes = c.len.result - c.len-start.result; rank = first.rank } in
+    map-set_same (λ n. tree n.term.now) c.push_arguments.new.found.items c.len-start.result counted first
+    (ap (λ (n : Node). tree n.term.now) c.index_mut.ensures.value)
+    ∙ c.in_ok-push_arguments.ensures.terms
+    ∙ ap (λ ts. ts ++ all_preorder (arguments own)) c.in_ok-push_node.ensures.terms
+    ∙ append_assoc (shown old) (own ∷ []) (all_preorder (arguments own))
+    ∙ ap (λ ts. shown old ++ ts) (sym (preorder_is own))
 
-pub push_subterms-overflow_cast-nodes : goal.push_subterms-overflow_cast-nodes
-push_subterms-overflow_cast-nodes t c =
+pub push_subterms-overflow_cast-len : goal.push_subterms-overflow_cast-len
+push_subterms-overflow_cast-len t c =
     let old = c.args.found.now.items in
-    let first : Node = record { term = c.args.term; nodes = 1; rank = 4294967295 } in
     let new = c.push_arguments.new.found.items in
-    let long = many (counts old) (counts c.push.new.self.items) (counts new) (tree c.args.term.now)
-    (ap counts c.in_ok-push.ensures.items ∙ map_push (λ n. n.nodes) old first)
+    let long = many (counts old) (counts c.push_node.new.found.items) (counts new) (tree c.args.term.now)
+    c.in_ok-push_node.ensures.nodes
     c.in_ok-push_arguments.ensures.nodes in
     omega (
       arith,
@@ -107,12 +102,13 @@ push_subterms-overflow_cast-nodes t c =
 pub push_subterms-returns-clause-nodes : goal.push_subterms-returns-clause-nodes
 push_subterms-returns-clause-nodes t c =
     let old = c.args.found.now.items in
-    let first : Node = record { term = c.args.term; nodes = 1; rank = 4294967295 } in
     let new = c.push_arguments.new.found.items in
     let start = c.len-start.result in
-    map-set (λ n. n.nodes) new start (record { term = c.args.term; nodes = c.len.result - start; rank = 4294967295 })
-    ∙ counted (counts old) (counts c.push.new.self.items) (counts new) (tree c.args.term.now) start c.len.result
-    (ap counts c.in_ok-push.ensures.items ∙ map_push (λ n. n.nodes) old first)
+    let first = c.index_mut.result.now in
+    map-set (λ n. n.nodes) new start
+    (record { term = first.term; nodes = c.len.result - start; rank = first.rank })
+    ∙ counted (counts old) (counts c.push_node.new.found.items) (counts new) (tree c.args.term.now) start c.len.result
+    c.in_ok-push_node.ensures.nodes
     c.in_ok-push_arguments.ensures.nodes
     (c.len-start.ensures ∙ c.args.found.now.ok.0 ∙ sym (length-map old (λ n. n.nodes)))
     (c.len.ensures ∙ c.push_arguments.new.found.ok.0 ∙ sym (length-map new (λ n. n.nodes)))
@@ -191,9 +187,9 @@ push_arguments-returns-after-loop-arg-clause-nodes t c =
 
 pub push_subterms-returns-clause-unranked : goal.push_subterms-returns-clause-unranked
 push_subterms-returns-clause-unranked t c =
-    let new = c.push_arguments.new.found.items in
-    let start = c.len-start.result in
+    let first = c.index_mut.result.now in
+    let counted : Node = record { term = first.term; nodes = c.len.result - c.len-start.result; rank = first.rank } in
     subst (All (λ r. 2 ^ 32 ≤ r + 1))
-    (sym (map-set (λ n. n.rank) new start
-    (record { term = c.args.term; nodes = c.len.result - start; rank = 4294967295 })))
-    (All-set (λ r. 2 ^ 32 ≤ r + 1) (ranks new) start 4294967295 (omega arith) c.in_ok-push_arguments.ensures.unranked)
+    (sym (map-set_same (λ n. n.rank) c.push_arguments.new.found.items c.len-start.result counted first
+    (ap (λ (n : Node). n.rank) c.index_mut.ensures.value)))
+    c.in_ok-push_arguments.ensures.unranked
