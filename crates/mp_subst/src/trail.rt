@@ -9,7 +9,7 @@ ghost use Rattle.mp_subst.specs.TrailView.{entry_value, last_place, IsWithin, Ar
 
 use crate::bound::Bound;
 use crate::subst::{Binding, Bindings, Subst};
-use mp_pattern::{Form, MAX_VARIABLES, Plan};
+use mp_pattern::{Form, Plan};
 use mp_table::{Rank, Table};
 use mp_term::{Memory, OpId};
 use std::alloc::Global;
@@ -39,8 +39,8 @@ pub(crate) struct Entry {
 /// but `new` and `copy` take no memory. Contracts see it as the record `Trail` of `specs/Trail.antt`; the value of a
 /// variable is that of its last entry on the stack.
 // Of the ranks the first `used` are in use: those behind them are of entries that were taken back, and are written
-// over. The number of an entry is its place and one more. `last` has for each variable that a pattern may have the
-// number of its last entry, 0 if there is none; variables past its end are looked for on the stack.
+// over. The number of an entry is its place and one more. `last` has for each of the first variables the number of its
+// last entry, 0 if there is none; variables past its end are looked for on the stack.
 #[derive(Drop)]
 pub struct Trail {
     pub(crate) vars: u32,
@@ -49,7 +49,7 @@ pub struct Trail {
     pub(crate) used: u32,
     pub(crate) entries: Vec<Entry>,
     pub(crate) ranks: Vec<Rank>,
-    pub(crate) last: [u32; MAX_VARIABLES],
+    pub(crate) last: [u32; 8],
 }
 
 impl Model for Trail {
@@ -184,7 +184,7 @@ impl Trail {
             used: 0,
             entries,
             ranks,
-            last: [0; MAX_VARIABLES],
+            last: [0; 8],
         })
     }
 

@@ -1,5 +1,4 @@
 use Rattle.std.proofs.Common.{◌≡◌, [], length, sym, ap, subst, replicate, arith}
-use Rattle.mp_pattern.specs.declared.limits.TheConstants.{MAX_VARIABLES}
 use Rattle.mp_subst.specs.TrailView.{Laid, HasRoom, AreLast, AreEarlier}
 use Rattle.mp_subst.proofs.LastLaws.{are_last-none, are_earlier-none}
 use Rattle.mp_subst.proofs.trail.Trail.new.Goals as goal
@@ -16,6 +15,6 @@ invariant_of-result c =
       entries_capacity = omega (arith, c.in_ok-entries.ensures.capacity);
       ranks_capacity = omega (arith, c.in_ok-ranks.ensures.capacity);
       rooms = subst (λ es. HasRoom 0 es room) (sym none) tt;
-      last = subst (AreLast (replicate MAX_VARIABLES 0)) (sym none) (are_last-none MAX_VARIABLES);
-      earlier = subst (AreEarlier MAX_VARIABLES) (sym none) (are_earlier-none MAX_VARIABLES);
+      last = subst (AreLast (replicate 8 0)) (sym none) (are_last-none 8);
+      earlier = subst (AreEarlier 8) (sym none) (are_earlier-none 8);
     }

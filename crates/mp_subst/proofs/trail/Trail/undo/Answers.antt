@@ -41,7 +41,8 @@ invariant_of-self c =
       entries_capacity = omega (arith, i.entries_capacity, c.truncate.ensures.capacity);
       ranks_capacity = i.ranks_capacity;
       rooms = subst (λ xs. HasRoom 0 xs t.room) (sym entries) r.0;
-      last = subst (AreLast c.take_back.new.last) (ap (take m) c.deref.ensures.value ∙ sym entries) c.take_back.ensures.last;
+      last = subst (AreLast c.take_back.new.last) (ap (take m) c.deref.ensures.value ∙ sym entries)
+          c.take_back.ensures.last;
       earlier = subst (λ n. AreEarlier n c.truncate.new.self.items) (sym c.take_back.ensures.count)
           (subst (AreEarlier (length t.last)) (sym entries)
           (are_earlier-take (length t.last) es m (omega (arith, h)) i.earlier));
