@@ -1,6 +1,6 @@
 -- One step of a search below a node.
 use Rattle.std.proofs.Common.{◌≡◌, ◌≤◌, ◌+◌, List, [], length, drop, true, false, refl, ap, sym, ◌∙◌, subst, arith}
-use Rattle.std.specs.Prelude.{Some, None, slice_get}
+use Rattle.std.specs.Prelude.{Some, slice_get}
 use Rattle.std.specs.Global.{Global}
 use Rattle.std.specs.List.{AllByRecursion}
 use Rattle.std.specs.Prelude.{Vec}
@@ -44,12 +44,6 @@ pub onward : (stage : Stage) (mode : Mode) → Some mode ≡ mode_at stage → I
 onward Before mode e = let m : First ≡ mode = cc in subst IsOnward m tt
 onward Standing mode e = let m : After ≡ mode = cc in subst IsOnward m tt
 onward Ended mode e = cc
-
--- where nothing is looked for, nothing is to come
-pub none-ahead : (stage : Stage) → None ≡ mode_at stage → (W : Table) (is : List Item) → ahead_at stage W is ≡ []
-none-ahead Before e W is = cc
-none-ahead Standing e W is = cc
-none-ahead Ended e W is = refl
 
 -- the first of those that are to come is an item
 pub ahead-in : (stage : Stage) (W : Table) (is : List Item) (i : Item) → slice_get (ahead_at stage W is) 0 ≡ Some i

@@ -22,11 +22,8 @@ mod store;
 mod subpattern;
 mod syntactic;
 
-pub use args::Args;
-pub use candidates::Candidates;
 pub use comm_matcher::CommMatcher;
 pub use comm_plan::CommPlan;
 pub use comm_plans::{CommPlans, Prepared};
-pub use room::CommRoom;
 pub use search::CommSearch;
 pub use store::CommStore;

@@ -1,9 +1,8 @@
 //! The search for the items of a commutative node, where its first children take one term each.
-ghost use Rattle.std.specs.Prelude.{◌≡◌, ◌<◌, ◌≤◌, ◌+◌, ◌∷◌, ◌++◌, ℕ, List, [], length, map, drop, MatchBool};
+ghost use Rattle.std.specs.Prelude.{◌≡◌, ◌<◌, ◌≤◌, ◌+◌, ◌∷◌, ◌++◌, List, [], length, map, MatchBool};
 ghost use Rattle.std.specs.Prelude.{IsTrue, false, slice_get, true};
 ghost use Rattle.std.specs.List.{AllByRecursion};
 ghost use Rattle.std.specs.List.Sorted.{IsSorted};
-ghost use Rattle.mp_term.specs.Listing.{In};
 ghost use Rattle.mp_term.specs.Pieces.{is_sublist, without};
 ghost use Rattle.mp_term.specs.Size.{all_nodes};
 ghost use Rattle.mp_term.specs.Tree.{Tree};

@@ -1,8 +1,6 @@
 //! What all searches over one table have in common.
-ghost use Rattle.std.specs.Prelude.{◌≡◌, ◌<◌, ◌≤◌, ◌+◌, length, drop, take, map, ◌-◌, IfOk, IfSome, OnOk, ℕ};
-ghost use Rattle.std.specs.List.{AllByRecursion};
+ghost use Rattle.std.specs.Prelude.{IfOk, OnOk};
 ghost use Rattle.mp_table.specs.Table.{Table};
-ghost use Rattle.mp_ac.specs.CommPlans.{ArePlans};
 ghost use Rattle.mp_ac.specs.Store.{IsStoreOf};
 ghost use Rattle.mp_ac.specs.CommRoom.{IsOfTable, IsRoomFor};
 ghost use Rattle.mp_ac.specs.declared.comm_plans.CommPlans.{CommPlans as plain_plans};

@@ -4,7 +4,7 @@ ghost use Rattle.std.specs.Prelude.{false, MatchBool, MatchResult, IfOk, IfSome}
 ghost use Rattle.std.specs.List.{AllByRecursion};
 ghost use Rattle.mp_term.specs.Listing.{In};
 ghost use Rattle.mp_term.specs.Tree.{trees};
-ghost use Rattle.mp_pattern.specs.PatternTree.{symbol_pattern, app_pattern, wild_pattern, patterns};
+ghost use Rattle.mp_pattern.specs.PatternTree.{symbol_pattern, patterns};
 ghost use Rattle.mp_pattern.specs.Size.{pattern_nodes, list_nodes};
 ghost use Rattle.mp_pattern.specs.Variables.{variables, all_uses};
 ghost use Rattle.mp_pattern.specs.View.{pattern_tree, wildcard};

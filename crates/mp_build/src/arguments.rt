@@ -2,7 +2,7 @@
 
 ghost use Rattle.std.specs.Prelude.{◌≡◌, option_map, is_some};
 ghost use Rattle.mp_term.specs.Signature.{Sig};
-ghost use Rattle.mp_parser.specs.View.{spot_of, spot_of_sign};
+ghost use Rattle.mp_parser.specs.View.{spot_of};
 ghost use Rattle.mp_build.specs.Answers.{Gives};
 ghost use Rattle.mp_build.specs.Build.{op_number, sign_number, head_number};
 ghost use Rattle.mp_build.specs.Checks.{op_named, op_signed, head_faults, arity_faults};

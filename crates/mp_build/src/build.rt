@@ -1,10 +1,9 @@
 //! Makes terms and patterns of expressions, and checks them on the way.
 
-ghost use Rattle.std.specs.Prelude.{◌≡◌, [], ◌++◌, true, length, map, None, is_some, option_map};
-ghost use Rattle.mp_term.specs.Signature.{allows, well_formed};
+ghost use Rattle.std.specs.Prelude.{◌≡◌, [], ◌++◌, true, map, None};
+ghost use Rattle.mp_term.specs.Signature.{well_formed};
 ghost use Rattle.mp_term.specs.View.{tree};
 ghost use Rattle.mp_term.specs.Normal.{normal};
-ghost use Rattle.mp_pattern.specs.SoundRule.{allows_patterns};
 ghost use Rattle.mp_build.specs.declared.fault.TextKind.TheVariants.{UnknownKind};
 ghost use Rattle.mp_pattern.specs.View.{pattern_tree, wildcard};
 ghost use Rattle.mp_parser.specs.Syntax.{trees, InfixOf};
@@ -14,9 +13,9 @@ ghost use Rattle.mp_build.specs.Build.{kind_shape, variable_of, term_of, pattern
 ghost use Rattle.mp_build.specs.Wildcards.{pattern_wildcards, all_pattern_wildcards};
 ghost use Rattle.mp_build.specs.WildcardView.{wildcard_view};
 ghost use Rattle.mp_build.specs.Checks.{fault_if, kind_unknown, term_wildcard_faults, loose_faults};
-ghost use Rattle.mp_build.specs.Checks.{whole_pattern_faults, op_named, op_signed, symbol_faults, head_faults};
-ghost use Rattle.mp_build.specs.Checks.{arity_faults, sign_faults, term_faults, term_operand_faults, all_term_faults};
-ghost use Rattle.mp_build.specs.Checks.{pattern_faults, pattern_operand_faults, all_pattern_faults};
+ghost use Rattle.mp_build.specs.Checks.{whole_pattern_faults, symbol_faults, sign_faults, term_faults};
+ghost use Rattle.mp_build.specs.Checks.{term_operand_faults, all_term_faults, pattern_faults, pattern_operand_faults};
+ghost use Rattle.mp_build.specs.Checks.{all_pattern_faults};
 
 use crate::arguments::{Arguments, head_op, sign_op};
 use crate::extent::{count_of, counted_shape, marked_shape};
@@ -78,9 +77,9 @@ fn build_term(alloc: Global, sig: &Signature, expr: &Expr<'_>) -> Result<Term, T
             sign,
             operands,
         } => infix_term(alloc, sig, place, sign, operands),
-        Expr::Wild(wild) => Err(wildcard_fault(sig, &wild)),
-        Expr::Optional { wildcard, .. } => Err(wildcard_fault(sig, wildcard)),
-        Expr::Counted { wildcard, .. } => Err(wildcard_fault(sig, wildcard)),
+        Expr::Wild(wild) => Err(wildcard_in_term(sig, wild)),
+        Expr::Optional { wildcard, .. } => Err(wildcard_in_term(sig, *wildcard)),
+        Expr::Counted { wildcard, .. } => Err(wildcard_in_term(sig, *wildcard)),
         Expr::Variable(name) => Err(error_at(TextKind::WildcardInTerm, name.place)),
     }
 }
@@ -119,14 +118,7 @@ pub fn normal_built(alloc: Global, sig: &Signature, term: Term) -> Result<Term, 
 pub fn wildcard_in_term(sig: &Signature, wild: Wildcard<'_>) -> TextError
     ensures { Fails result (term_wildcard_faults sig.now (wildcard_of wild.entry)) }
 {
-    wildcard_fault(sig, &wild)
-}
-
-/// The first fault of a wildcard in a term.
-fn wildcard_fault(sig: &Signature, wild: &Wildcard<'_>) -> TextError
-    ensures { Fails result (term_wildcard_faults sig.now (wildcard_of wild.now)) }
-{
-    match shape(sig, wild, Shape::Dot) {
+    match shape(sig, &wild, Shape::Dot) {
         Ok(_) => error_at(TextKind::WildcardInTerm, wild.place),
         Err(error) => error,
     }

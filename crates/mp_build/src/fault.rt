@@ -75,10 +75,10 @@ pub struct TextFault {
     pub column: u32,
 }
 
-/// Why no file is given.
+/// Why nothing is made of a text or of a syntax tree.
 #[derive(Debug, Drop)]
 pub enum TextError {
-    /// The text is no rule file, for this first fault.
+    /// It has this first fault.
     Text(TextFault),
     /// Memory ran out.
     Memory,

@@ -54,7 +54,12 @@ pub struct PatternWildcard<'a> {
     pub default: DefaultForm,
 }
 
-/// The pattern of a wildcard without a default behind these, or its first fault. The wildcard is added to them.
+/// The pattern of a wildcard without a default behind these, to which it is added.
+///
+/// - `Text`: the first fault of the wildcard behind these, at its place, by `wildcard_faults` of `specs/Checks.antt`.
+/// - `Memory`: memory ran out.
+///
+/// After an error the wildcard may have been added all the same.
 pub fn build_wildcard<'a>(
     alloc: Global,
     sig: &Signature,

@@ -32,10 +32,6 @@ abbrev pub Answers : Result Bool Stop → Result Bool ListFault → Type 0
 Answers told result = (sig : Sig) (before after : Left) (ms : List Match) (out : Sunk)
     → PrintsMatches (printed sig before ms) out after told → Lists (lines (printed sig before ms).0) out result
 
--- all were printed
-pub answers-Ok : (any : Bool) → Answers (Ok any) (Ok any)
-answers-Ok any sig before after ms out h = (refl, h.0, h.2)
-
 -- the last line says that others follow
 pub answers-More : Answers (Err stop.More) (Ok true)
 answers-More sig before after ms out h =

@@ -11,10 +11,10 @@ pub enum ListFault {
     /// The text is a token, but that of no match of the file.
     #[error("token: not an item")]
     NotAnItem,
-    /// A write failed.
+    /// A write failed; a front of the lines was written.
     #[error("cannot write")]
     CannotWrite,
-    /// There was no memory.
+    /// There was no memory; a front of the lines was written.
     #[error("want of memory")]
     Memory,
 }

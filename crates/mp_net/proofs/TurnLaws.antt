@@ -289,14 +289,6 @@ wildcard-goes ms vs ws hs h x o a f e =
     ∙ ap (λ us. joined us (map (opens ms) (map (λ h. item_below (mark_of h) x ∷ []) hs))) (sym (states-listed ms vs))
     ∙ ap (joined (states ms vs)) (opens-below ms x hs ∙ ap (λ p. below_each (p ∷ []) (map mark_of hs)) (sym oe))
 
--- and behind the place
-pub wildcard-behind : (ms : List (List net.Mark)) (h : Mark) (x : Item) (o : net.Open) → h ≡ Anything
-    → Some (mark_of h, open_of ms x) ≡ first_of o.rule o.rest → net.going net.behind (o ∷ []) ≡ open_of ms x ∷ []
-wildcard-behind ms h x o a f =
-    let u = open_of ms x in
-    ap (λ p. net.going net.behind (p ∷ []))
-    (first-some o u (mark_of h) f ∙ ap (λ g. ruled u.rule (mark_of g ∷ u.rest)) a)
-
 -- the head that a rule asks for is among those of all rules
 pub head-there : (K : List (List ℕ)) (ms : List (List net.Mark)) (h : Mark) (x : Item) (o : net.Open)
     → (h ≡ Anything → ⊥) → Some (mark_of h, open_of ms x) ≡ first_of o.rule o.rest

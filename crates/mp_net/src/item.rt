@@ -1,6 +1,6 @@
 //! A rule with what it still asks.
-ghost use Rattle.std.specs.Prelude.{◌≡◌, ◌<◌, ◌≤◌, ◌+◌, ◌-◌, ◌^◌, [], ◌∷◌, map, slice_get, option_map, IfSome};
-ghost use Rattle.mp_net.specs.Net.{anythings, arity, held_or};
+ghost use Rattle.std.specs.Prelude.{◌≡◌, ◌<◌, ◌≤◌, ◌+◌, ◌-◌, ◌^◌, [], slice_get, option_map, IfSome};
+ghost use Rattle.mp_net.specs.Net.{arity, held_or};
 ghost use Rattle.mp_net.specs.View.{mark_of, open_of};
 ghost use Rattle.mp_net.specs.Items.{tables, split, first_of, item_below};
 

@@ -1,4 +1,5 @@
-// The main theorems, each as the contract of a function that does nothing.
+//! The main theorems, each as the contract of a function that does nothing.
+
 ghost use Rattle.std.specs.Prelude.{◌≡◌, ◌≤◌, ◌↔◌, ℕ, List, [], Option, Some, None, true, map, length};
 ghost use Rattle.std.specs.List.{AllByRecursion};
 ghost use Rattle.mp_term.specs.Tree.{Tree};

@@ -1,12 +1,10 @@
 //! What a rule admits, by what was read of a subject.
-ghost use Rattle.std.specs.Prelude.{◌≡◌, ◌++◌, true, [], option_map, IfOk, IfSome, OnOk};
+ghost use Rattle.std.specs.Prelude.{◌≡◌, ◌++◌, true, [], option_map, IfOk, OnOk};
 ghost use Rattle.std.specs.List.{AllByRecursion, cons_option};
-ghost use Rattle.mp_pattern.specs.CondView.{cond_tree};
 ghost use Rattle.mp_pattern.specs.RuleView.{rule_tree};
 ghost use Rattle.mp_pattern.specs.SoundRule.{IsSoundRule};
 ghost use Rattle.mp_pattern.specs.View.{pattern_tree};
 ghost use Rattle.mp_subst.specs.View.{subst_of};
-ghost use Rattle.mp_cond.specs.Ready.{IsReady};
 ghost use Rattle.mp_table.specs.Table.{IsTable};
 ghost use Rattle.mp_net.specs.AllList.{tested};
 ghost use Rattle.mp_net.specs.Nets.{is_syntactic_rule};

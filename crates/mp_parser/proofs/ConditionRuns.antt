@@ -55,7 +55,7 @@ property_of-word properties.Head = refl
 -- ---- runs over one token
 
 -- behind a word lie the other tokens
-behind-word : (text : List ℕ) (t : Token) (ts : List Placed) → is_word text t ≡ true → behind t ts ≡ ts
+pub behind-word : (text : List ℕ) (t : Token) (ts : List Placed) → is_word text t ≡ true → behind t ts ≡ ts
 behind-word text (Word w) ts h = refl
 behind-word text End ts h = absurd cc
 behind-word text _ ts h = absurd cc

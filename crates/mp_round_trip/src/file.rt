@@ -13,8 +13,8 @@ ghost use Rattle.mp_round_trip.specs.OpenBrackets.{IsShallowIf};
 ghost use Rattle.mp_round_trip.specs.Readable.{IsSpelledSignature};
 ghost use Rattle.mp_round_trip.specs.Spelled.{file_spelling};
 
-/// Law: the text that a file is printed as, `file_text` of `specs/PrintedFile.antt`, is read as the statements of the
-/// file, `file_spelling` of `specs/Spelled.antt`, apart from the places where they stand.
+/// Law: the text that a file is printed as, `file_text` of mp_text's `specs/PrintedFile.antt`, is read as the
+/// statements of the file, `file_spelling` of `specs/Spelled.antt`, apart from the places where they stand.
 ///
 /// It holds for a file whose statements the grammar has: each word is a word of 1 to 64 letters and digits, each sign a
 /// sign, each kind has a member, each edit statement an edit, each wildcard is one that is read, and at most 100
@@ -25,15 +25,16 @@ pub fn printed_file_is_its_statements()
         × (map unplaced read ≡ map unplaced (file_spelling file)) }
 {}
 
-/// Law: the signature of a file that some bytes are, `IsFileOf` of `mp_text`, has names and signs that are such.
+/// Law: the signature of a file that some bytes are, `IsFileOf` of mp_text's `specs/Reading.antt`, has names and signs
+/// that are such.
 ///
 /// It does nothing when it runs.
 pub fn signatures_of_files_are_spelled()
     ensures { (bytes : List ℕ) (file : FileTree) → IsFileOf bytes file → IsSpelledSignature file.sig }
 {}
 
-/// Law: in a file that some bytes are, `IsFileOf` of `mp_text`, the members of the kinds are names, and at most
-/// `MAX_DEPTH` brackets are open at once in the condition of a rule.
+/// Law: in a file that some bytes are, `IsFileOf` of mp_text's `specs/Reading.antt`, the members of the kinds are
+/// names, and at most 100 brackets are open at once in the condition of a rule.
 ///
 /// It does nothing when it runs.
 pub fn members_and_conditions_of_files_are_spelled()
@@ -43,8 +44,8 @@ pub fn members_and_conditions_of_files_are_spelled()
         → AllByRecursion (λ r. IsShallowIf r.condition) file.rules }
 {}
 
-/// Law: the text that a file is printed as, `file_text` of `specs/PrintedFile.antt`, is read as that file, for every
-/// file that some bytes are, `IsFileOf` of `specs/Reading.antt`.
+/// Law: the text that a file is printed as, `file_text` of mp_text's `specs/PrintedFile.antt`, is read as that file,
+/// for every file that some bytes are, `IsFileOf` of its `specs/Reading.antt`.
 ///
 /// It does nothing when it runs.
 pub fn printed_file_is_read()

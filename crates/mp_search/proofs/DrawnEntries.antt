@@ -23,7 +23,7 @@ abbrev entry : List Tree → Bool → Entry
 entry l c = record { terms = l; collapsed = c }
 
 -- filters in either order
-filter-filter : {X : Type 0} (p q : X → Bool) (xs : List X) → filter p (filter q xs) ≡ filter q (filter p xs)
+pub filter-filter : {X : Type 0} (p q : X → Bool) (xs : List X) → filter p (filter q xs) ≡ filter q (filter p xs)
 filter-filter p q [] = refl
 filter-filter p q (x ∷ xs) =
     elim (p x) as

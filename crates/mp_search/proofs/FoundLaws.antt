@@ -44,7 +44,7 @@ filter-never : {X : Type 0} (p : X → Bool) (xs : List X) → ((x : X) → p x 
 filter-never p [] h = refl
 filter-never p (x ∷ xs) h = ap (λ b. if b then x ∷ filter p xs else filter p xs) (h x) ∙ filter-never p xs h
 
-filter-always : {X : Type 0} (p : X → Bool) (xs : List X) → ((x : X) → p x ≡ true) → filter p xs ≡ xs
+pub filter-always : {X : Type 0} (p : X → Bool) (xs : List X) → ((x : X) → p x ≡ true) → filter p xs ≡ xs
 filter-always p [] h = refl
 filter-always p (x ∷ xs) h = ap (λ b. if b then x ∷ filter p xs else filter p xs) (h x)
     ∙ ap (λ ys. x ∷ ys) (filter-always p xs h)

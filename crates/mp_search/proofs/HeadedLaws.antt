@@ -263,12 +263,3 @@ between-fewer Wanted More rs i j f h = record {
   before = λ z k w. h.before z k (f z w);
   behind = λ z k w. h.behind z k (f z w);
 }
-
--- all stand in the whole list
-pub between-all : (Wanted : Rank → Type 0) (rs : List Rank) → StandBetween Wanted rs 0 (length rs)
-between-all Wanted rs = record {
-  from = omega arith;
-  within = omega arith;
-  before = λ z k w l. absurd (omega (arith, l));
-  behind = λ z k w l o. absurd (omega (arith, l, o));
-}

@@ -1,7 +1,7 @@
 -- Children that are marked, and how many terms they may match.
-use Rattle.std.proofs.Common.{◌≡◌, ℕ, ◌+◌, ◌≤◌, List, [], ◌∷◌, Bool, true, false, refl, ap, subst, arith}
-use Rattle.std.proofs.Common.{length, inl}
-use Rattle.std.specs.Prelude.{Option, filter, ◌||◌, if◌then◌else◌}
+use Rattle.std.proofs.Common.{◌≡◌, ℕ, List, [], ◌∷◌, Bool, true, false, refl, ap, subst, arith}
+use Rattle.std.proofs.Common.{inl}
+use Rattle.std.specs.Prelude.{Option, ◌||◌}
 use Rattle.std.proofs.lemmas.Bool.{and_parts}
 use Rattle.mp_term.specs.Order.{tree_cmp}
 use Rattle.mp_term.specs.OrderLaws.{tree_cmp_total, tree_same}
@@ -20,7 +20,7 @@ use Rattle.mp_theory.specs.Kept.{Keeps}
 use Rattle.mp_theory.specs.Machine.{onward, said, choices}
 use Rattle.mp_theory.specs.OneList.{Item}
 use Rattle.mp_theory.specs.MayMatch.{takes_one, may_match}
-use Rattle.mp_theory.specs.Supply.{Covers, passing}
+use Rattle.mp_theory.specs.Supply.{Covers}
 use Rattle.mp_theory.proofs.KeptValues.{item-by, solve-keeps}
 use Rattle.mp_theory.proofs.Matching.{may_match-earlier}
 use Rattle.mp_theory.proofs.SupplyLaws.{supply-behind, passing-without}
@@ -62,7 +62,7 @@ module _ (sig : Sig) (s : Subst) (f : Option ℕ) where
       either false k = k
 
 -- nothing is in a list that has no member
-none-in : {X : Type 0} (xs : List X) → ((x : X) → In x xs → ⊥) → xs ≡ []
+pub none-in : {X : Type 0} (xs : List X) → ((x : X) → In x xs → ⊥) → xs ≡ []
 none-in [] h = refl
 none-in (x ∷ xs) h = absurd (h x (inl refl))
 
@@ -104,15 +104,3 @@ lacking-before sig k p f fs e s ms i h c m =
     let sum = passing-without test e.terms f.left
     (sublist-from_piece tree_cmp tree_cmp_total tree_same (comm_above sig f.under) e.terms f.left piece) in
     omega (arith, few, sum, h.few)
-
--- of a list with one term more, at most one more passes
-pub passing-less : (test : Tree → Bool) (t : Tree) (ts : List Tree) → passing test (t ∷ ts) ≤ 1 + passing test ts
-passing-less test t ts = elim (test t) as (λ b. length (if b then t ∷ filter test ts else filter test ts)
-    ≤ 1 + length (filter test ts)) [ true ↦ omega arith | false ↦ omega arith ]
-
--- and none more where it doesn't pass
-pub passing-same : (test : Tree → Bool) (t : Tree) (ts : List Tree) → (test t ≡ true → ⊥)
-    → passing test (t ∷ ts) ≡ passing test ts
-passing-same test t ts nope = elim (test t) as (λ b. test t ≡ b
-    → length (if b then t ∷ filter test ts else filter test ts) ≡ length (filter test ts))
-    [ true ↦ λ e. absurd (nope e) | false ↦ λ e. refl ] refl

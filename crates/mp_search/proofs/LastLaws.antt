@@ -57,7 +57,7 @@ plain sig w x f e h = by_side e.collapsed refl
     by_side true i = cc
     by_side false i = refl
 
-same-entry : (d e : Entry) → d.terms ≡ e.terms → d.collapsed ≡ e.collapsed → d ≡ e
+pub same-entry : (d e : Entry) → d.terms ≡ e.terms → d.collapsed ≡ e.collapsed → d ≡ e
 same-entry d e t c = rw (t, c) refl
 
 module _ (sig : Sig) (w : Wildcard) (x : Option (List ℕ)) (f : Frame) (fs : List Frame) (e : Entry)

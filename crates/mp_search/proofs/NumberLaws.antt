@@ -128,7 +128,7 @@ variable-place p i w x e = known-place (variables p) x
     (known-in [] (names (uses None p)) x (use-named w x None p (in-slice_get (subpatterns p) i _ e)))
 
 -- distinct names at two places are at one
-distinct-places : (xs : List (List ℕ)) (i j : ℕ) (x : List ℕ) → Distinct same_name xs → slice_get xs i ≡ Some x
+pub distinct-places : (xs : List (List ℕ)) (i j : ℕ) (x : List ℕ) → Distinct same_name xs → slice_get xs i ≡ Some x
     → slice_get xs j ≡ Some x → i ≡ j
 distinct-places [] i j x d h k = cc
 distinct-places (y ∷ xs) zero zero x d h k = refl

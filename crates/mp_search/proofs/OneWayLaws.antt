@@ -30,7 +30,7 @@ use Rattle.mp_theory.specs.Items.{items, items_by, behind}
 use Rattle.mp_theory.specs.Kept.{Keeps}
 use Rattle.mp_theory.specs.Known.{contributed}
 use Rattle.mp_theory.specs.Machine.{is_ended, is_headed, arguments, onward, said, reads}
-use Rattle.mp_theory.specs.MayMatch.{has_optional, is_alone_in, takes_one, each_takes_one, is_plain, may_collapse}
+use Rattle.mp_theory.specs.MayMatch.{has_optional, takes_one, each_takes_one, is_plain, may_collapse}
 use Rattle.mp_theory.specs.MayMatch.{may_match, each_may_match}
 use Rattle.mp_theory.specs.OneList.{Item, item_tables}
 use Rattle.mp_theory.proofs.ItemLaws.{GoesOn, from_in-items}
@@ -47,24 +47,15 @@ use Rattle.mp_search.specs.OneWay.{IsTold, AreTold, IsToldWithin, IsAnyWild, Hav
 use Rattle.mp_search.specs.Parts.{IsWild}
 use Rattle.mp_search.specs.Reading.{subst_of}
 use Rattle.mp_search.specs.Wanted.{wanted, good, beyond, IsStanding}
-use Rattle.mp_search.proofs.LastLaws.{sublist-whole}
+use Rattle.mp_search.proofs.LastLaws.{sublist-whole, same-entry}
 use Rattle.mp_search.proofs.MatchLaws.{known-value, match-known}
+use Rattle.mp_search.proofs.PartnerLaws.{alone-same}
 use Rattle.mp_search.proofs.StandingLaws.{by-bound}
 use Rattle.mp_search.proofs.SubstLaws.{has-value}
-
-same-entry : (d e : Entry) → d.terms ≡ e.terms → d.collapsed ≡ e.collapsed → d ≡ e
-same-entry d e t c = rw (t, c) refl
 
 not-first : (b c : Bool) → (not b && c) ≡ true → b ≡ false
 not-first true c h = cc
 not-first false c h = refl
-
--- a list that is one term alone is no other one alone
-alone-same : (l : List Tree) (t u : Tree) → is_alone_in l t ≡ true → is_alone_in l u ≡ true → t ≡ u
-alone-same [] t u h k = cc
-alone-same (v ∷ []) t u h k = sym (same-sound tree_cmp tree_cmp_total tree_same v t h)
-    ∙ same-sound tree_cmp tree_cmp_total tree_same v u k
-alone-same (v ∷ w ∷ l) t u h k = cc
 
 headed : (g : ℕ) (t : Tree) → has_head g t ≡ true → (ts : Trees) × (t ≡ app g ts)
 headed g (symbol n) h = cc

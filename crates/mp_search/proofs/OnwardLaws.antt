@@ -22,7 +22,7 @@ use Rattle.mp_search.specs.Query.{IsReady, width}
 use Rattle.mp_search.specs.Reading.{entry_at, table_of}
 use Rattle.mp_search.specs.Levels.{AreLevels}
 use Rattle.mp_search.specs.At.{AreInOrder, IsAtNode, HasTrail, IsAt, KeepsLevels}
-use Rattle.mp_search.proofs.LevelsLaws.{place-suc, place-same, take-less}
+use Rattle.mp_search.proofs.LevelsLaws.{place-suc, place-same}
 use Rattle.mp_search.proofs.OrderLaws.{order-onward, order-start}
 
 -- where the levels below are kept it counts on the same
@@ -74,11 +74,6 @@ node-same q k old new h l e = record {
   narrow = subst (λ n. load n ≤ width q) (sym (place-same q k new old e)) h.narrow;
   ordered = subst (AreInOrder q.sig.now) (sym (place-same q k new old e)) h.ordered;
 }
-
--- what is kept from one node on is kept from the one before on
-pub keeps-less : (q : Query) (k : ℕ) (old new : List Level) → take (suc k) new ≡ take (suc k) old
-    → take k new ≡ take k old
-keeps-less q k old new h = take-less k new old h
 
 -- what is kept twice is kept
 pub levels-after : (q : Query) (k : ℕ) (old new last : List Level) → KeepsLevels q k old new

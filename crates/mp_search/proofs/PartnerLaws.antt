@@ -51,7 +51,7 @@ leads-match q x s r l = matched q.sig.now l.count (pattern_tree x.child.now) (si
     (term_at q.table.now r) l.item l.choice l.found l.alone
 
 -- of two terms one list has but one
-alone-same : (l : List Tree) (t u : Tree) → is_alone_in l t ≡ true → is_alone_in l u ≡ true → t ≡ u
+pub alone-same : (l : List Tree) (t u : Tree) → is_alone_in l t ≡ true → is_alone_in l u ≡ true → t ≡ u
 alone-same [] t u h k = cc
 alone-same (v ∷ []) t u h k = sym (same-sound tree_cmp tree_cmp_total tree_same v t h)
     ∙ same-sound tree_cmp tree_cmp_total tree_same v u k

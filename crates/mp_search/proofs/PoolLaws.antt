@@ -9,10 +9,9 @@ use Rattle.mp_term.proofs.PiecesLaws.{same-sound}
 use Rattle.mp_pattern.specs.PatternTree.{Pattern, symbol_pattern, app_pattern, wild_pattern, patterns}
 use Rattle.mp_subst.specs.Bound.{value_in}
 use Rattle.mp_subst.specs.Trail.{Trail, last_value}
-use Rattle.mp_search.specs.Bounds.{IsFreeOf, IsFree, HasNoValue}
+use Rattle.mp_search.specs.Bounds.{HasNoValue}
 use Rattle.mp_search.specs.Numbers.{IsNumberAt}
 use Rattle.mp_search.specs.Reading.{name_at, subst_of}
-use Rattle.mp_search.specs.Shares.{is_optional_child}
 use Rattle.mp_search.proofs.SubstLaws.{value_of-subst_from}
 use Rattle.std.specs.Prelude.{if◌then◌else◌}
 use Rattle.std.specs.List.Sorted.{IsSorted}
@@ -233,26 +232,6 @@ ranks-among t (r ∷ rs) (s ∷ ss) h e =
       )
       | false ↦ λ q k. ranks-among t (r ∷ rs) ss h.1 k
     ] refl e
-
--- a child whose variable has no value is free
-pub free-child : (q : Query) (x : Site) (s : Subst) (v : ℕ) → IsNumberAt q (pattern_tree x.child.now) (Some v)
-    → HasNoValue (pattern_tree x.child.now) s → is_optional_child (pattern_tree x.child.now) ≡ false
-    → IsFree q x s (Some v)
-free-child q x s v n m o = at (pattern_tree x.child.now) refl n m o
-  where
-    at : (p : Pattern) → pattern_tree x.child.now ≡ p → IsNumberAt q p (Some v) → HasNoValue p s
-        → is_optional_child p ≡ false → IsFreeOf q x s v
-    at (symbol_pattern k) e n m o = cc
-    at (app_pattern g ps) e n m o = cc
-    at (wild_pattern w None) e n m o = cc
-    at (wild_pattern w (Some y)) e n m o = record {
-      wildcard = w;
-      name = y;
-      child = e;
-      required = o;
-      number = n;
-      free = m;
-    }
 
 -- a variable that isn't bound has no value
 pub no-value : (q : Query) (p : Pattern) (v : ℕ) (t : Trail) → IsNumberAt q p (Some v) → last_value t.stack v ≡ None

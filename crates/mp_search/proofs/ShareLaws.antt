@@ -2,21 +2,20 @@
 use Rattle.std.proofs.Common.{◌≡◌, ℕ, zero, suc, ◌+◌, ◌-◌, ◌≤◌, List, [], ◌∷◌, ◌++◌, take, drop, length}
 use Rattle.std.proofs.Common.{true, false, not, ◌&&◌, nat_eq, refl, ap, sym, ◌∙◌, subst, arith, eqb-true, eq-eqb}
 use Rattle.std.proofs.Common.{get_or, length-append, length-drop}
-use Rattle.std.specs.Prelude.{Option, Some, None, option_map, slice_get, if◌then◌else◌, map}
+use Rattle.std.specs.Prelude.{Option, Some, None, option_map, slice_get, map}
 use Rattle.mp_term.specs.Signature.{Sig}
 use Rattle.mp_term.proofs.ListLaws.{bool_same}
 use Rattle.mp_pattern.specs.PatternTree.{Pattern, symbol_pattern, app_pattern, wild_pattern}
 use Rattle.mp_pattern.specs.PatternTree.{patterns}
 use Rattle.mp_pattern.specs.Size.{pattern_nodes}
 use Rattle.mp_pattern.specs.Subpatterns.{subpatterns, all_subpatterns}
-use Rattle.mp_pattern.specs.Value.{Value, Subst, value_of, same_name}
+use Rattle.mp_pattern.specs.Value.{Value, same_name}
 use Rattle.mp_pattern.specs.View.{pattern_tree}
 use Rattle.mp_pattern.proofs.NameLaws.{same_name-is, same_name-itself}
 use Rattle.mp_pattern.proofs.PlanLaws.{length-subpatterns}
 use Rattle.mp_subst.specs.Bound.{Bound, value_in}
 use Rattle.mp_subst.specs.Trail.{Trail, last_value}
-use Rattle.mp_theory.specs.Bounds.{least, most}
-use Rattle.mp_theory.specs.Known.{contributed, least_known, most_known}
+use Rattle.mp_theory.specs.Known.{contributed}
 use Rattle.mp_pattern.specs.declared.pattern.Pattern as declared
 use Rattle.mp_search.specs.Query.{IsQuery}
 use Rattle.mp_search.proofs.NumberedLaws.{count-nodes}
@@ -161,49 +160,3 @@ module _ (q : Query) (t : Trail) (sig : Sig) (f : Option ℕ) where
       sym (ap (option_map (λ u. length (contributed sig f u)))
       (value_of-subst_from q.table.now (name_at q) x v n.name n.only [] t.stack
       ∙ ap (λ o. elim o as (λ _. Option Value) [ None ↦ None | Some c ↦ Some (value_in q.table.now c) ]) e))
-
--- the numbers of terms of a child, as far as is known
-pub least-optional : (sig : Sig) (s : Subst) (f : Option ℕ) (p : Pattern) → is_optional_child p ≡ true
-    → least p ≡ least_known sig s f p
-least-optional sig s f (symbol_pattern k) h = cc
-least-optional sig s f (app_pattern g ps) h = cc
-least-optional sig s f (wild_pattern w None) h = refl
-least-optional sig s f (wild_pattern w (Some x)) h =
-    sym (ap (λ b. elim (if b then None else option_map (contributed sig f) (value_of s x)) as (λ _. ℕ)
-    [ None ↦ least (wild_pattern w (Some x)) | Some l ↦ length l ]) h)
-
-pub least-known : (sig : Sig) (s : Subst) (f : Option ℕ) (p : Pattern) → is_optional_child p ≡ false
-    → elim (length_known sig s f p) as (λ _. ℕ) [ None ↦ least p | Some n ↦ n ] ≡ least_known sig s f p
-least-known sig s f (symbol_pattern k) h = refl
-least-known sig s f (app_pattern g ps) h = refl
-least-known sig s f (wild_pattern w None) h = refl
-least-known sig s f (wild_pattern w (Some x)) h =
-    through (value_of s x)
-    ∙ sym (ap (λ b. elim (if b then None else option_map (contributed sig f) (value_of s x)) as (λ _. ℕ)
-    [ None ↦ least (wild_pattern w (Some x)) | Some l ↦ length l ]) h)
-  where
-    through : (o : Option Value)
-        → elim (option_map (λ v. length (contributed sig f v)) o) as (λ _. ℕ)
-        [ None ↦ least (wild_pattern w (Some x)) | Some n ↦ n ]
-        ≡ elim (option_map (contributed sig f) o) as (λ _. ℕ)
-        [ None ↦ least (wild_pattern w (Some x)) | Some l ↦ length l ]
-    through None = refl
-    through (Some v) = refl
-
-pub most-known : (sig : Sig) (s : Subst) (f : Option ℕ) (p : Pattern)
-    → elim (length_known sig s f p) as (λ _. Option ℕ) [ None ↦ most sig f p | Some n ↦ Some n ]
-    ≡ most_known sig s f p
-most-known sig s f (symbol_pattern k) = refl
-most-known sig s f (app_pattern g ps) = refl
-most-known sig s f (wild_pattern w None) = refl
-most-known sig s f (wild_pattern w (Some x)) = through (value_of s x)
-  where
-    through : (o : Option Value)
-        → elim (option_map (λ v. length (contributed sig f v)) o) as (λ _. Option ℕ)
-        [ None ↦ most sig f (wild_pattern w (Some x)) | Some n ↦ Some n ]
-        ≡ elim o as (λ _. Option ℕ) [
-          | None ↦ most sig f (wild_pattern w (Some x))
-          | Some v ↦ Some (length (contributed sig f v))
-        ]
-    through None = refl
-    through (Some v) = refl
