@@ -14,26 +14,9 @@ use Rattle.mp_pattern.specs.DerivationOrder.{table_cmp}
 use Rattle.mp_theory.specs.OneList.{Item, item_tables}
 use Rattle.mp_theory.proofs.Tables.{entry_cmp_total}
 use Rattle.mp_theory.proofs.SecondSearch.{ascending-kept}
+use Rattle.mp_search.proofs.DrawnEntries.{filter-filter}
 use Rattle.mp_search.proofs.NumberLaws.{in-slice_get}
 use Rattle.mp_cursor.specs.Listing.{items_after}
-
--- two filters in turn, in the other order
-filter-filter : {X : Type 0} (p q : X → Bool) (xs : List X) → filter p (filter q xs) ≡ filter q (filter p xs)
-filter-filter p q [] = refl
-filter-filter p q (x ∷ xs) =
-    elim (p x) as (λ b. p x ≡ b → filter p (if q x then x ∷ filter q xs else filter q xs)
-    ≡ filter q (if b then x ∷ filter p xs else filter p xs)) [
-      | true ↦ λ e. elim (q x) as (λ c. q x ≡ c → filter p (if c then x ∷ filter q xs else filter q xs)
-          ≡ (if c then x ∷ filter q (filter p xs) else filter q (filter p xs))) [
-            | true ↦ λ f. rw e (ap (λ ys. x ∷ ys) (filter-filter p q xs))
-            | false ↦ λ f. filter-filter p q xs
-          ] refl
-      | false ↦ λ e. elim (q x) as (λ c. q x ≡ c → filter p (if c then x ∷ filter q xs else filter q xs)
-          ≡ filter q (filter p xs)) [
-            | true ↦ λ f. rw e (filter-filter p q xs)
-            | false ↦ λ f. filter-filter p q xs
-          ] refl
-    ] refl
 
 -- those after an item that stands before all of them
 after-all : (j : Item) (is : List Item) → AllByRecursion (λ T. table_cmp j.0 T ≡ Less) (item_tables is)

@@ -1,12 +1,8 @@
--- Filters that keep everything, and two filters in one.
+-- Two filters in one, and filters that keep everything.
 use Rattle.std.proofs.Common.{◌≡◌, ◌≤◌, List, [], ◌∷◌, Bool, true, false, ◌&&◌, length, refl, ap, sym, ◌∙◌, arith, inl}
 use Rattle.std.proofs.Common.{inr}
 use Rattle.std.specs.Prelude.{filter, if◌then◌else◌, IsTrue}
 use Rattle.mp_term.specs.Search.{In}
-
-pub filter-all : {X : Type 0} (p : X → Bool) (xs : List X) → ((x : X) → p x ≡ true) → filter p xs ≡ xs
-filter-all p [] h = refl
-filter-all p (x ∷ xs) h = rw (h x) (ap (λ ys. x ∷ ys) (filter-all p xs h))
 
 pub filter-both : {X : Type 0} (p q : X → Bool) (xs : List X) → filter (λ x. p x && q x) xs ≡ filter q (filter p xs)
 filter-both p q [] = refl

@@ -26,11 +26,12 @@ use Rattle.mp_search.specs.declared.level.Level.{Level}
 use Rattle.mp_search.specs.declared.mode.Mode.TheVariants.{First, At}
 use Rattle.mp_search.specs.Levels.{take_of}
 use Rattle.mp_search.specs.Reading.{table_of}
+use Rattle.mp_search.proofs.FoundLaws.{filter-always}
 use Rattle.mp_cursor.specs.declared.matched.Matched.{Matched}
 use Rattle.mp_cursor.specs.Kept.{HaveRoom, AreHeldTakes}
 use Rattle.mp_cursor.specs.Matched.{IsMatched, all_items, looked_for, sought}
 use Rattle.mp_cursor.specs.Listing.{subject_of, ReadAs}
-use Rattle.mp_cursor.proofs.FilterLaws.{filter-all, not-empty, both-true}
+use Rattle.mp_cursor.proofs.FilterLaws.{not-empty, both-true}
 use Rattle.mp_cursor.proofs.ReaderLaws.{item-fits}
 use Rattle.mp_cursor.proofs.SoughtLaws.{is_least, items-of-pattern, normal-subject, found-item}
 use Rattle.mp_cursor.proofs.TableLaws.{IsShort, all-short, short-takes, short-room, table-takes, takes-same}
@@ -85,7 +86,7 @@ module _ (m : Matched) where
         let i : Item = (table_of t ls, s) in
         let j : Item = (table_of t ms, u) in
         let pass : looked_for m None First V s ≡ all_items m s =
-        filter-all (λ (i : Item). true) (all_items m s) (λ i. refl) in
+        filter-always (λ (i : Item). true) (all_items m s) (λ i. refl) in
         let tested : slice_get (all_items m s) 0 ≡ Some j → is_least m i ≡ is_eq (table_cmp i.0 j.0) = λ e.
         least_item-tested m.sig.now m.plan.now.pattern (subject_of t) i j
         (subst (λ is. slice_get is 0 ≡ Some j) (items-of-pattern m h s) e) in

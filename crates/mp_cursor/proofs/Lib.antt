@@ -11,6 +11,7 @@ pub mod LookLaws
 pub mod RootLaws
 pub mod BeginLaws
 pub mod LeastLaws
+pub mod DirectLaws
 pub mod FirstLaws
 pub mod PartsLaws
 pub mod NextLaws

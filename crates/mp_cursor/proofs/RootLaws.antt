@@ -12,7 +12,6 @@ use Rattle.mp_term.specs.Sorting.{sorted}
 use Rattle.mp_term.specs.Tree.{Tree, Trees, symbol, app, trees, tree_list}
 use Rattle.mp_term.specs.Signature.{Sig, is_one, is_assoc, is_comm}
 use Rattle.mp_term.specs.Normal.{IsNormal}
-use Rattle.mp_term.specs.Search.{In}
 use Rattle.mp_term.proofs.ListingLaws.{all_in}
 use Rattle.mp_term.specs.TreeLists.{tree_list-trees}
 use Rattle.mp_pattern.specs.Admission.{Rule, meets}
@@ -28,6 +27,7 @@ use Rattle.mp_theory.specs.MayMatch.{takes_one, each_takes_one}
 use Rattle.mp_theory.specs.Least.{is_least_item}
 use Rattle.mp_theory.specs.OneList.{item_list}
 use Rattle.mp_theory.proofs.SecondSearch.{items-fit, item_list-least}
+use Rattle.mp_search.proofs.LackLaws.{none-in}
 pub use Rattle.mp_search.proofs.NumberLaws.{same-swapped}
 
 pub single : (t u : Tree) → t ∷ [] ≡ u ∷ [] → t ≡ u
@@ -153,16 +153,12 @@ module _ (sig : Sig) (s : Subst) where
       let a = alone-taken g p l W o h.0 in
       let whole : a.0 ∷ fits.joined ls ≡ [] = ap (λ k. k ++ fits.joined ls) (sym a.1) ∙ e in cc
 
-empty : {X : Type 0} (xs : List X) → ((x : X) → In x xs → ⊥) → xs ≡ []
-empty [] h = refl
-empty (x ∷ xs) h = absurd (h x (inl refl))
-
 -- where nothing takes the term there are no items
 pub no-items : (sig : Sig) (r : Rule) (t : Tree) → IsNormal sig t
     → ((s : Subst) (W : fits.Table) → fits.Takes sig s None r.pattern (t ∷ []) W → ⊥) → item_list sig r t ≡ []
 no-items sig r t n h =
     let all = items sig (pattern_nodes r.pattern) (settle (start r.pattern t)) [] in
-    let none : all ≡ [] = empty all (λ i k. h i.1 i.0
+    let none : all ≡ [] = none-in all (λ i k. h i.1 i.0
     (all_in (λ j. fits.Fits sig r.pattern t j.1 j.0) all i (items-fit sig r.pattern t n) k).takes) in
     item_list-least sig r t n
     ∙ ap (λ is. filter (is_least_item sig r.pattern t) (filter (λ i. meets sig r.condition i.1) is)) none

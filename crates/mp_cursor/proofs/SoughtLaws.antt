@@ -28,8 +28,9 @@ use Rattle.mp_cursor.specs.Matched.{IsMatched, IsOnward, IsDecided, all_items, l
 use Rattle.mp_cursor.specs.Listing.{items_after, subject_of}
 use Rattle.mp_cursor.proofs.AfterLaws.{after-first, after-found, kept-after, kept-first, left-first}
 use Rattle.mp_cursor.proofs.AfterLaws.{fewer-behind}
-use Rattle.mp_cursor.proofs.FilterLaws.{filter-all, filter-both, kept-pass}
+use Rattle.mp_cursor.proofs.FilterLaws.{filter-both, kept-pass}
 use Rattle.mp_pattern.proofs.PlanNodes.{plan-nodes}
+use Rattle.mp_search.proofs.FoundLaws.{filter-always}
 use Rattle.mp_search.proofs.NumberLaws.{in-slice_get}
 use Rattle.mp_search.proofs.TableLaws.{subject-normal}
 
@@ -146,7 +147,7 @@ module _ (m : Matched) where
         let two : item_list m.sig.now r t ≡ kept =
         item_list-distinct m.sig.now r t normal-subject (d refl).0 (d refl).1 in
         let same : kept ≡ all_items m [] =
-        filter-all (λ (j : Item). true) all (λ j. refl) ∙ sym (items-of-pattern []) in
+        filter-always (λ (j : Item). true) all (λ j. refl) ∙ sym (items-of-pattern []) in
         kept-pass is_least (all_items m []) i
         (subst (λ n. length (all_items m []) ≤ n)
         (ap length (sym same ∙ sym two ∙ one ∙ ap (filter is_least) same)) (omega arith)) k

@@ -2,6 +2,7 @@ pub mod CursorRoom
 pub mod CursorRoomCode
 pub mod Listing
 pub mod ListingCode
+pub mod Direct
 pub mod Kept
 pub mod Matched
 pub mod Parts

@@ -1,21 +1,23 @@
 //! The first substitution that a rule admits on a term.
-ghost use Rattle.std.specs.Prelude.{◌≡◌, ◌≤◌, [], Some, List, length, option_map, slice_get, IfOk, IsFalse};
+ghost use Rattle.std.specs.Prelude.{◌≡◌, ◌≤◌, [], Some, None, true, List, length, option_map, slice_get, IfOk, IsTrue};
 ghost use Rattle.mp_term.specs.View.{tree};
 ghost use Rattle.mp_term.specs.Normal.{IsNormal};
 ghost use Rattle.mp_term.specs.Size.{node_count};
-ghost use Rattle.mp_pattern.specs.Admission as plain;
 ghost use Rattle.mp_pattern.specs.Lists.{IsOneList};
 ghost use Rattle.mp_pattern.specs.Planned.{IsPlanned, planned_rule, rule_plan};
+ghost use Rattle.mp_pattern.specs.RuleView.{rule_tree};
+ghost use Rattle.mp_pattern.specs.Syntactic.{is_syntactic};
 ghost use Rattle.mp_pattern.specs.Value as values;
 ghost use Rattle.mp_pattern.specs.View.{pattern_tree};
 ghost use Rattle.mp_subst.specs.View.{subst_of};
-ghost use Rattle.mp_theory.specs.OneList.{item_list, one_list};
+ghost use Rattle.mp_theory.specs.OneList.{one_list};
 ghost use Rattle.mp_cursor.specs.Listing.{subject_of};
 
 use crate::cursor::Cursor;
 use crate::cursor_room::CursorRoom;
+use crate::direct::direct_subst;
 use crate::root::may_fit;
-use mp_pattern::{MAX_TERM_NODES, Plan, PlannedRule};
+use mp_pattern::{MAX_TERM_NODES, Plan, PlannedRule, Rule, is_syntactic};
 use mp_subst::Subst;
 use mp_table::Table;
 use mp_term::{Memory, Signature, Term};
@@ -34,6 +36,14 @@ pub fn room_for(alloc: Global, plan: &Plan, table: &Table) -> Result<CursorRoom,
         plan.vars(),
         table.nodes(table.root()) as u32,
     )
+}
+
+// Whether the rule has no condition, and a syntactic pattern: it admits one substitution at most.
+fn is_direct(sig: &Signature, rule: &Rule) -> bool
+    ensures free { IsTrue result → (rule_tree rule.now).condition ≡ None }
+    ensures syntactic { IsTrue result → is_syntactic sig.now (pattern_tree rule.now.pattern) ≡ true }
+{
+    rule.condition.is_none() && is_syntactic(sig, &rule.pattern)
 }
 
 /// The first substitution of the one-list, which has the least take table of all that the rule admits on the subject,
@@ -57,6 +67,10 @@ pub fn first_subst(
 {
     if !may_fit(sig, planned.plan.pattern(), subject) {
         return Ok(None);
+    }
+    if is_direct(sig, planned.rule) {
+        let found = direct_subst(alloc, sig, &planned.rule.pattern, subject)?;
+        return Ok(found);
     }
     let table = Table::build(alloc, sig, subject, &planned.constants)?;
     let room = room_for(alloc, &planned.plan, &table)?;

@@ -3,6 +3,7 @@
 
 mod cursor;
 mod cursor_room;
+mod direct;
 mod entries;
 mod first;
 mod kept;

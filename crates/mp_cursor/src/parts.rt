@@ -3,7 +3,6 @@ ghost use Rattle.std.specs.Prelude.{◌≡◌, ◌<◌, ◌*◌, ◌^◌, [], If
 ghost use Rattle.mp_term.specs.Search.{In};
 ghost use Rattle.mp_pattern.specs.CondView.{cond_tree};
 ghost use Rattle.mp_theory.specs.Least.{is_least_item};
-ghost use Rattle.mp_theory.specs.OneList.{Item};
 ghost use Rattle.mp_search.specs.Wanted.{IsStanding};
 ghost use Rattle.mp_search.specs.declared.mode.Mode.TheVariants.{First, After};
 ghost use Rattle.mp_cursor.specs.Matched.{IsMatched, IsDecidable, IsDecided, IsOnward, all_items, looked_for, sought};

@@ -7,6 +7,7 @@ use Rattle.mp_pattern.proofs.ConstantLaws.{constants-nodes, constants-normal}
 use Rattle.mp_pattern.proofs.SoundRules.{HasConditionOver-HasSoundCondition}
 use Rattle.mp_subst.specs.View.{subst_of}
 use Rattle.mp_cursor.specs.Listing.{subject_of}
+use Rattle.mp_cursor.proofs.DirectLaws.{taken-first}
 use Rattle.mp_cursor.proofs.FirstLaws.{subject-built, constants-held, first-item, first-step, no-item, first-exact}
 use Rattle.mp_cursor.proofs.FirstLaws.{no-some}
 use Rattle.mp_cursor.proofs.first.first_subst.Goals as goal
@@ -25,6 +26,17 @@ returns-then-not-may_fit-clause-exact c =
     (no-item c.args.sig.now r (tree c.args.subject.now) c.requires.normal
     (c.if-not-may_fit.ensures.items refl c.requires.normal r
     (sym (ap (λ (p : Plan). p.pattern) c.requires.planned.plan) ∙ sym c.pattern.ensures)))
+
+pub returns-then-is_direct-clause-first : goal.returns-then-is_direct-clause-first
+returns-then-is_direct-clause-first c =
+    c.in_ok-found.ensures ∙ taken-first c.args.sig.now (planned_rule c.args.planned.now) (tree c.args.subject.now)
+    c.requires.normal (c.if-is_direct.ensures.syntactic refl) (c.if-is_direct.ensures.free refl)
+
+pub returns-then-is_direct-clause-exact : goal.returns-then-is_direct-clause-exact
+returns-then-is_direct-clause-exact c =
+    first-exact c.args.sig.now (planned_rule c.args.planned.now) (tree c.args.subject.now) c.requires.normal _
+    (c.in_ok-found.ensures ∙ taken-first c.args.sig.now (planned_rule c.args.planned.now) (tree c.args.subject.now)
+    c.requires.normal (c.if-is_direct.ensures.syntactic refl) (c.if-is_direct.ensures.free refl))
 
 pub build-requires-clause-constant_nodes : goal.build-requires-clause-constant_nodes
 build-requires-clause-constant_nodes c =
