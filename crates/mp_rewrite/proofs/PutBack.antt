@@ -1,6 +1,6 @@
 -- Terms put in among the arguments of a normal application.
 use Rattle.std.proofs.Common.{◌≡◌, ◌∙◌, ap, sym, refl, subst, ℕ, zero, suc, ◌+◌, ◌<◌, ◌≤◌, Bool, true, false, ◌&&◌, not}
-use Rattle.std.proofs.Common.{List, [], ◌∷◌, ◌++◌, length, take, drop, arith, append_assoc}
+use Rattle.std.proofs.Common.{List, [], ◌∷◌, ◌++◌, length, take, drop, arith, append_assoc, eqb-true}
 use Rattle.std.specs.Prelude.{slice_get, Some, if◌then◌else◌}
 use Rattle.std.specs.Prelude.{is_some}
 use Rattle.std.specs.List.{insert, remove, AllByRecursion}
@@ -18,6 +18,7 @@ use Rattle.mp_term.specs.Normal.{parts, flattened, in_order, collapsed, normal, 
 use Rattle.mp_term.specs.NormalTest.{has_head, ascending, passes, all_pass}
 use Rattle.mp_term.proofs.Sorting.{tally, AtLeast, Ascends, tally-sorted, ascends-sorted, one_order}
 use Rattle.mp_term.proofs.NormalTestLaws.{ascending-from, sorted-ascending, passes-normal, normal-passes}
+use Rattle.mp_term.proofs.NormalLaws.{parts_same}
 use Rattle.mp_term.proofs.NormalSize.{all_nodes-append, all_nodes-sorted}
 use Rattle.mp_term.specs.Replaced.{replaced, replaced_argument}
 
@@ -145,10 +146,18 @@ module _ (sig : Sig) (f : ℕ) where
       ] e
 
   -- an argument that f doesn't open
-  stays : (t : Tree) (b : Bool) → is_assoc sig f ≡ b → (b && has_head f t) ≡ false → parts sig f t ≡ t ∷ []
+  pub stays : (t : Tree) (b : Bool) → is_assoc sig f ≡ b → (b && has_head f t) ≡ false → parts sig f t ≡ t ∷ []
   stays (symbol n) true q e = rw q refl
   stays (app g us) true q e = rw (q, e) refl
   stays t false q e = rw q refl
+
+  -- one that it opens
+  pub opened : (t : Tree) (g : ℕ) (ts : List Tree) → t ≡ app g (trees ts) → (is_assoc sig f && has_head f t) ≡ true
+      → ts ≡ parts sig f t
+  opened t g ts e h =
+      let p = and_parts (is_assoc sig f) (has_head f t) h in
+      let head : has_head f (app g (trees ts)) ≡ true = subst (λ u. has_head f u ≡ true) e p.1 in
+      sym (ap (parts sig f) e ∙ parts_same sig f g ts (sym (eqb-true f g head)) p.0)
 
   -- what the test says of one argument
   pub passes-here : (t : Tree) (ts : List Tree) → all_pass sig f (trees (t ∷ ts)) ≡ true

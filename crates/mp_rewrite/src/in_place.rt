@@ -1,14 +1,14 @@
 //! A subterm is replaced in place: only the applications above it are brought into normal form again.
 ghost use Rattle.std.specs.Prelude.{◌≡◌, ◌≤◌, ◌+◌, ◌++◌, ◌∷◌, [], ℕ, List, length, take, drop, true, false};
-ghost use Rattle.std.specs.Prelude.{is_some, IfOk};
+ghost use Rattle.std.specs.Prelude.{is_some, IfOk, ◌&&◌};
 ghost use Rattle.std.specs.List.{insert};
 ghost use Rattle.mp_term.specs.Tree.{Tree, trees};
 ghost use Rattle.mp_term.specs.View.{tree};
 ghost use Rattle.mp_term.specs.Size.{node_count, all_nodes};
 ghost use Rattle.mp_term.specs.Positions.{subterm};
-ghost use Rattle.mp_term.specs.Signature.{is_comm};
+ghost use Rattle.mp_term.specs.Signature.{is_assoc, is_comm};
 ghost use Rattle.mp_term.specs.Normal.{parts, in_order, collapsed, normal, IsNormal};
-ghost use Rattle.mp_term.specs.NormalTest.{ascending};
+ghost use Rattle.mp_term.specs.NormalTest.{ascending, has_head};
 ghost use Rattle.mp_pattern.specs.Admission.{Rule};
 ghost use Rattle.mp_rewrite.specs.Marks.{marks};
 ghost use Rattle.mp_rewrite.specs.MarkView.{mark_of};
@@ -16,7 +16,7 @@ ghost use Rattle.mp_rewrite.specs.Known.{IsKnown, AreKnown};
 ghost use Rattle.mp_term.specs.Replaced.{replaced};
 
 use crate::known::{Known, KnownArgs, known_args};
-use mp_term::{Memory, OpId, Signature, Term, Terms};
+use mp_term::{Memory, OpId, Signature, Term, Terms, has_head};
 use std::alloc::Global;
 
 // A term, what is known of it, and a number of nodes: those of the term and of all that is around it.
@@ -52,26 +52,16 @@ pub(crate) fn place(sig: &Signature, op: OpId, terms: &Terms, index: usize, term
     }
 }
 
-// One term as the arguments that it gives.
-fn alone(alloc: Global, term: Term, known: Known, nodes: u64) -> Result<MarkedArgs, Memory>
-    ensures terms { IfOk result (λ r. r.terms ≡ tree term ∷ []) }
-    ensures known { IfOk result (λ r. r.known ≡ mark_of known ∷ []) }
-    ensures nodes { IfOk result (λ r. r.nodes ≡ nodes) }
+// Whether an argument gives its own arguments in place of itself: its head is the operation, an associative one.
+fn opens(sig: &Signature, op: OpId, argument: &Term) -> bool
+    ensures { result ≡ (is_assoc sig.now op.0 && has_head op.0 (tree argument.now)) }
 {
-    let mut terms = Terms::new(alloc);
-    terms.push(term)?;
-    let mut all = KnownArgs::none(alloc);
-    all.push(known)?;
-    Ok(MarkedArgs {
-        terms,
-        known: all,
-        nodes,
-    })
+    sig.is_assoc(op) && has_head(argument, op)
 }
 
-// What an argument of the operation gives: its own arguments, where the operation is associative and its head, and
-// then there is one node less.
+// The arguments of such an argument, which are one node less.
 fn open(alloc: Global, sig: &Signature, op: OpId, argument: Marked) -> Result<MarkedArgs, Memory>
+    requires opens { (is_assoc sig.now op.0 && has_head op.0 (tree argument.term)) ≡ true }
     ensures terms { IfOk result (λ r. r.terms ≡ parts sig.now op.0 (tree argument.term)) }
     ensures same { IfOk result (λ r. length r.known ≡ length r.terms) }
     ensures known { IfOk result (λ r. (rules : List Rule)
@@ -82,11 +72,8 @@ fn open(alloc: Global, sig: &Signature, op: OpId, argument: Marked) -> Result<Ma
 {
     let Marked { term, known, nodes } = argument;
     match term {
-        Term::Sym(name) => alone(alloc, Term::Sym(name), known, nodes),
-        Term::App(inner, terms) => {
-            if inner.0 != op.0 || !sig.is_assoc(op) {
-                return alone(alloc, Term::App(inner, terms), known, nodes);
-            }
+        Term::Sym(_) => unreachable!(),
+        Term::App(_, terms) => {
             let known = known_args(alloc, known, terms.len())?;
             Ok(MarkedArgs {
                 terms,
@@ -95,6 +82,46 @@ fn open(alloc: Global, sig: &Signature, op: OpId, argument: Marked) -> Result<Ma
             })
         }
     }
+}
+
+// The arguments of the operation with another one put in at the index, or where they ascend at its place.
+fn put_one(
+    sig: &Signature,
+    op: OpId,
+    args: MarkedArgs,
+    index: usize,
+    one: Marked,
+) -> Result<MarkedArgs, Memory>
+    requires within { index ≤ length args.terms }
+    requires same { length args.known ≡ length args.terms }
+    requires ascending { is_comm sig.now op.0 ≡ true → ascending args.terms ≡ true }
+    ensures terms { IfOk result (λ r.
+        r.terms ≡ in_order sig.now op.0 (take index args.terms ++ (tree one.term ∷ drop index args.terms))) }
+    ensures before { IfOk result (λ r. (more : List Tree)
+        → in_order sig.now op.0 (take index r.terms ++ (more ++ drop index r.terms))
+        ≡ in_order sig.now op.0 (take index args.terms ++ ((more ++ tree one.term ∷ []) ++ drop index args.terms))) }
+    ensures longer { IfOk result (λ r. length r.terms ≡ length args.terms + 1) }
+    ensures same { IfOk result (λ r. length r.known ≡ length r.terms) }
+    ensures ascending { IfOk result (λ r. is_comm sig.now op.0 ≡ true → ascending r.terms ≡ true) }
+    ensures known { IfOk result (λ r. (rules : List Rule) → AreKnown sig.now rules (marks args.known) (trees args.terms)
+        → IsKnown sig.now rules (mark_of one.known) (tree one.term)
+        → AreKnown sig.now rules (marks r.known) (trees r.terms)) }
+    ensures nodes { IfOk result (λ r. r.nodes ≡ one.nodes) }
+{
+    let MarkedArgs {
+        mut terms,
+        known: mut all,
+        nodes: _,
+    } = args;
+    let Marked { term, known, nodes } = one;
+    let at = place(sig, op, &terms, index, &term);
+    terms.insert(at, term)?;
+    all.insert(at, known)?;
+    Ok(MarkedArgs {
+        terms,
+        known: all,
+        nodes,
+    })
 }
 
 // The arguments of the operation with the parts put in at the index, or where they ascend each at its place.
@@ -117,11 +144,7 @@ fn insert_parts(
         → AreKnown sig.now rules (marks r.known) (trees r.terms)) }
     ensures nodes { IfOk result (λ r. r.nodes ≡ parts.nodes) }
 {
-    let MarkedArgs {
-        mut terms,
-        mut known,
-        nodes: _,
-    } = args;
+    let mut all = args;
     let MarkedArgs {
         terms: mut more,
         known: mut more_known,
@@ -129,12 +152,14 @@ fn insert_parts(
     } = parts;
     while 0 < more.len() {
         let last = more.len() - 1;
-        let part = more.remove(last);
-        let part_known = more_known.remove(last);
-        let at = place(sig, op, &terms, index, &part);
-        terms.insert(at, part)?;
-        known.insert(at, part_known)?;
+        let part = Marked {
+            term: more.remove(last),
+            known: more_known.remove(last),
+            nodes,
+        };
+        all = put_one(sig, op, all, index, part)?;
     }
+    let MarkedArgs { terms, known, .. } = all;
     Ok(MarkedArgs {
         terms,
         known,
@@ -192,6 +217,10 @@ fn put_back(
         → changed.nodes ≡ node_count (tree changed.term) + (all_nodes args.terms + 1 + rest)
         → m.nodes ≡ node_count (tree m.term) + rest) }
 {
+    if !opens(sig, op, &changed.term) {
+        let all = put_one(sig, op, args, index, changed)?;
+        return Ok(close(sig, op, all));
+    }
     let opened = open(alloc, sig, op, changed)?;
     let all = insert_parts(sig, op, args, index, opened)?;
     Ok(close(sig, op, all))

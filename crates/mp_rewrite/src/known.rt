@@ -1,6 +1,6 @@
 //! What is known of the positions of a term, kept beside it.
 ghost use Rattle.std.specs.Prelude.{◌≡◌, ◌<◌, ◌≤◌, ◌++◌, ◌∷◌, [], ℕ, List, length, replicate};
-ghost use Rattle.std.specs.Prelude.{slice_get, slice_set, Some, OnOk, OnErr, IfOk, IsTrue};
+ghost use Rattle.std.specs.Prelude.{slice_get, slice_set, Some, OnOk, IfOk, IsTrue};
 ghost use Rattle.std.specs.List.{insert, remove};
 ghost use Rattle.mp_term.specs.Tree.{app, trees, Tree};
 ghost use Rattle.mp_term.specs.Signature.{Sig};

@@ -1,7 +1,5 @@
 //! One rewriting step, and as many as a limit allows.
-ghost use Rattle.std.specs.Prelude.{◌≡◌, map};
 ghost use Rattle.mp_term.specs.View.{tree};
-ghost use Rattle.mp_pattern.specs.RuleView.{rule_tree};
 ghost use Rattle.mp_rewrite.specs.Answers.{IsStepAnswer, IsRewritingAnswer};
 ghost use Rattle.mp_rewrite.specs.ComputedAnswers.{IsComputedStep, IsComputedRewriting};
 ghost use Rattle.mp_rewrite.specs.Computed as computed;

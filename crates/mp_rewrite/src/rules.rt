@@ -10,6 +10,7 @@ ghost use Rattle.mp_rewrite.specs.Matched.{match_of};
 
 use crate::cancelled::cancelled_by;
 use crate::taken::Found;
+use mp_cursor::may_fit;
 use mp_one::first_subst;
 use mp_pattern::{MAX_TERM_NODES, PlannedRule, Rule};
 use mp_subst::Subst;
@@ -23,8 +24,10 @@ pub(crate) struct Match<'a> {
     pub(crate) subst: Subst,
 }
 
-// The first substitution that the rule admits on the term.
-fn match_rule<'a>(
+// The first substitution that the rule admits on the term. It isn't inlined: most rules don't fit most terms, and what
+// a search needs on the stack would be made ready for each of them.
+#[inline(never)]
+fn search_rule<'a>(
     alloc: Global,
     sig: &Signature,
     planned: &PlannedRule<'a>,
@@ -46,6 +49,25 @@ fn match_rule<'a>(
             subst,
         })),
     }
+}
+
+// The same, after a look at whether the rule fits at all.
+fn match_rule<'a>(
+    alloc: Global,
+    sig: &Signature,
+    planned: &PlannedRule<'a>,
+    term: &Term,
+) -> Result<Option<Match<'a>>, Memory>
+    requires planned { IsPlanned sig.now (rule_plan planned.now) }
+    requires normal { IsNormal sig.now (tree term.now) }
+    requires few { node_count (tree term.now) ≤ MAX_TERM_NODES }
+    ensures { IfOk result (λ m.
+        option_map match_of m ≡ computed.rule_match sig.now (planned_rule planned.now) (tree term.now)) }
+{
+    if !may_fit(sig, &planned.rule.pattern, term) {
+        return Ok(None);
+    }
+    search_rule(alloc, sig, planned, term)
 }
 
 // The least rule that admits something on the term, with the first substitution of its one-list there, and None where

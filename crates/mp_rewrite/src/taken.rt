@@ -1,7 +1,7 @@
 //! The places of what a cancellation takes first.
-ghost use Rattle.std.specs.Prelude.{◌≡◌, ◌<◌, ◌+◌, ◌≤◌, ◌∷◌, [], ℕ, Some, map, length, slice_get, MatchOption};
+ghost use Rattle.std.specs.Prelude.{◌≡◌, ◌<◌, ◌+◌, [], Some, map, slice_get, MatchOption};
 ghost use Rattle.std.specs.Prelude.{IsTrue, IsFalse, true};
-ghost use Rattle.mp_term.specs.Tree.{Tree, symbol, app, trees};
+ghost use Rattle.mp_term.specs.Tree.{symbol};
 ghost use Rattle.mp_term.specs.Order.{tree_cmp};
 ghost use Rattle.mp_term.specs.View.{tree};
 ghost use Rattle.mp_term.specs.NormalTest.{ascending, has_head};

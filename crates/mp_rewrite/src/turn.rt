@@ -1,9 +1,9 @@
 //! The next step of a term, made in place.
-ghost use Rattle.std.specs.Prelude.{◌≡◌, ◌≤◌, ◌<◌, ◌+◌, ◌∷◌, [], ℕ, List, length, map, max, IfOk, is_some, true};
+ghost use Rattle.std.specs.Prelude.{◌≡◌, ◌≤◌, ◌<◌, ◌∷◌, [], List, map, max, IfOk, is_some, true};
 ghost use Rattle.std.specs.List.{AllByRecursion};
-ghost use Rattle.mp_term.specs.Tree.{Tree, trees};
+ghost use Rattle.mp_term.specs.Tree.{Tree};
 ghost use Rattle.mp_term.specs.View.{tree};
-ghost use Rattle.mp_term.specs.Size.{node_count, depth, all_nodes, greatest_depth};
+ghost use Rattle.mp_term.specs.Size.{node_count, depth};
 ghost use Rattle.mp_term.specs.Excess.{excess};
 ghost use Rattle.mp_term.specs.Normal.{IsNormal};
 ghost use Rattle.mp_term.specs.Positions.{subterm};

@@ -8,16 +8,16 @@ use Rattle.mp_rewrite.proofs.in_place.insert_parts.Given as goal
 
 abbrev pub invariant-loop-op : goal.invariant-loop-op
 invariant-loop-op l = record {
-  terms : in_order l.sig l.op.0 (take l.index l.terms ++ (l.more ++ drop l.index l.terms))
+  terms : in_order l.sig l.op.0 (take l.index l.all.terms ++ (l.more ++ drop l.index l.all.terms))
       ≡ in_order l.sig l.op.0
       (take l.index l.fn.args.terms ++ (l.fn.parts.terms ++ drop l.index l.fn.args.terms));
-  same : length l.known ≡ length l.terms;
+  same : length l.all.known ≡ length l.all.terms;
   same_more : length l.more_known ≡ length l.more;
-  within : l.index ≤ length l.terms;
-  ascending : is_comm l.sig l.op.0 ≡ true → ascending l.terms ≡ true;
+  within : l.index ≤ length l.all.terms;
+  ascending : is_comm l.sig l.op.0 ≡ true → ascending l.all.terms ≡ true;
   known : (rules : List Rule) → AllKnown l.sig rules l.fn.args.known l.fn.args.terms
       → AllKnown l.sig rules l.fn.parts.known l.fn.parts.terms
-      → AllKnown l.sig rules l.known l.terms × AllKnown l.sig rules l.more_known l.more;
+      → AllKnown l.sig rules l.all.known l.all.terms × AllKnown l.sig rules l.more_known l.more;
 }
 
 abbrev pub decreases-loop-op : goal.decreases-loop-op

@@ -1,12 +1,9 @@
-use Rattle.std.proofs.Common.{◌≡◌, true, refl}
-use Rattle.mp_term.specs.Signature.{is_assoc}
-use Rattle.mp_term.proofs.NormalLaws.{parts_same}
+use Rattle.std.proofs.Common.{ap}
+use Rattle.mp_term.specs.View.{tree}
+use Rattle.mp_rewrite.proofs.PutBack.{opened}
 use Rattle.mp_rewrite.proofs.in_place.open.Goals as goal
 
-pub returns-in_ok-known-in-App-clause-terms : goal.returns-in_ok-known-in-App-clause-terms
-returns-in_ok-known-in-App-clause-terms c =
-    let a : is_assoc c.args.sig.now c.args.op.0 ≡ true = cc in
-    rw (
-      c.in-App.is,
-      parts_same c.args.sig.now c.args.op.0 c.in-App.inner.0 c.in-App.terms c.if-inner-op.false a,
-    ) refl
+pub returns-clause-terms : goal.returns-clause-terms
+returns-clause-terms c =
+    opened c.args.sig.now c.args.op.0 (tree c.args.argument.term) _ c.in-App.terms (ap tree c.in-App.is)
+    c.requires.opens
