@@ -225,15 +225,18 @@ module _ (sig : Sig) where
   -- a pattern that no wildcard stands before, and which is none, is whole where its nodes are few
   pub is_whole_pattern_read-few : (number : ℕ) (p : Pattern) (before after : List PatternWildcard)
       (old new : List Placed) → IsPatternRead sig BeforeExpr MAX_OPEN number p before after old new → before ≡ []
-      → number ≤ MAX_VARIABLES → IsNoWildcard p → IsWholePatternRead sig p old new
+      → number ≤ MAX_VARIABLES → IsNoWildcard p → IsWholePatternRead sig p after old new
   is_whole_pattern_read-few number p before after old new h none few no_wild = record {
     expr = h.expr;
     read = h.read;
-    faultless = ap (λ l. l ++ pattern_faults sig [] h.expr)
-        (loose_faults-none sig h.expr (subst IsNoWildcard h.pattern no_wild))
-        ∙ ap (λ l. pattern_faults sig l h.expr) (sym none) ∙ h.faultless;
-    pattern = h.pattern;
-    small = is_large_pattern-few h.expr (omega (arith, few, h.count)) h.small;
+    whole = record {
+      faultless = ap (λ l. l ++ pattern_faults sig [] h.expr)
+          (loose_faults-none sig h.expr (subst IsNoWildcard h.pattern no_wild))
+          ∙ ap (λ l. pattern_faults sig l h.expr) (sym none) ∙ h.faultless;
+      pattern = h.pattern;
+      wildcards = h.wildcards ∙ ap (λ l. l ++ pattern_wildcards sig h.expr) none;
+      small = is_large_pattern-few h.expr (omega (arith, few, h.count)) h.small;
+    };
   }
 
   -- the expressions have no fault behind these wildcards and no large default, so many nodes, these patterns, of which

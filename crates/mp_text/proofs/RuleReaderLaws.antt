@@ -1,39 +1,49 @@
--- The end of a rule of a pattern alone, and when such a rule has no fault.
-use Rattle.std.proofs.Common.{◌≡◌, true, false, List, [], ◌∷◌, ◌++◌, None, refl, ap, ◌∙◌}
+-- The variables of wildcards, and the faults of a rule whose pattern has none.
+use Rattle.std.proofs.Common.{◌≡◌, List, ◌++◌, map, Option, Some, refl, sym, ap, ◌∙◌}
 use Rattle.std.specs.Prelude.{◌||◌}
+use Rattle.std.proofs.lemmas.List.{map-append}
 use Rattle.mp_term.specs.Signature.{Sig}
-use Rattle.mp_pattern.specs.declared.limits.TheConstants.{MAX_RULES}
-use Rattle.mp_parser.specs.declared.token.Punct.TheVariants.{Semicolon}
-use Rattle.mp_parser.specs.Tokens.{Token, Punctuation, Placed}
-use Rattle.mp_parser.specs.Lexing.{behind}
-use Rattle.mp_parser.specs.Syntax.{Spot, Tree, Statement, RuleOf}
-use Rattle.mp_parser.specs.Machine.{Top, AfterExpr, InStatement, OfRule, Emit, heading, is_punct, step_role, run}
-use Rattle.mp_parser.proofs.Runs.{over-punct}
-use Rattle.mp_build.specs.Names.{rule_names}
-use Rattle.mp_build.specs.Checks.{name_faults, whole_pattern_faults, is_large_pattern}
-use Rattle.mp_build.proofs.Faultless.{nil-both}
-use Rattle.mp_text.specs.FileChecks.{rule_faults, is_large_rule, statement_faults}
+use Rattle.mp_pattern.specs.PatternTree.{Pattern}
+use Rattle.mp_parser.specs.Syntax.{Tree, Symbol, Apply, InfixOf, Wild, Optional, Counted, Variable, Trees, no_trees}
+use Rattle.mp_parser.specs.Syntax.{more_trees, Condition}
+use Rattle.mp_build.specs.ConditionChecks.{has_large_condition, if_faults}
+use Rattle.mp_build.specs.Scope.{pattern_variables, all_pattern_variables}
+use Rattle.mp_build.specs.TemplateChecks.{has_large_template, arrow_faults}
+use Rattle.mp_build.specs.Wildcards.{PatternWildcard, pattern_wildcards, all_pattern_wildcards}
+use Rattle.mp_text.specs.FileChecks.{rule_faults, is_large_rule}
+use Rattle.mp_text.specs.ReadPattern.{IsWholePatternOf}
+use Rattle.mp_text.specs.ReadRule.{wildcard_variable}
 
--- the semicolon behind its pattern ends a rule
-step_role-semicolon : (name : Spot) (e : Tree) (t : Token) → is_punct Semicolon t ≡ true
-    → step_role OfRule name e t ≡ Emit (RuleOf name e None None)
-step_role-semicolon name e (Punctuation q) h = rw h refl
-step_role-semicolon name e _ h = absurd cc
+module _ (sig : Sig) where
+  mutual
+    -- the variables of a pattern's wildcards are its variables
+    pub map-pattern_wildcards : (e : Tree) → map wildcard_variable (pattern_wildcards sig e) ≡ pattern_variables e
+    map-pattern_wildcards (Symbol w) = refl
+    map-pattern_wildcards (Apply f args) = map-all_pattern_wildcards args
+    map-pattern_wildcards (InfixOf opened sign operands) = map-all_pattern_wildcards operands
+    map-pattern_wildcards (Wild w) = refl
+    map-pattern_wildcards (Optional w others default) = refl
+    map-pattern_wildcards (Counted w count more) = refl
+    map-pattern_wildcards (Variable x) = refl
 
--- a run over that semicolon
-pub over-end : (done : List Statement) (name : Spot) (e : Tree) (t : Placed) (old new : List Placed)
-    → old ≡ t ∷ behind t.token new → is_punct Semicolon t.token ≡ true
-    → run done (AfterExpr (InStatement (heading OfRule name)) [] e) old
-    ≡ run (done ++ RuleOf name e None None ∷ []) Top new
-over-end done name e t old new from h =
-    over-punct Semicolon t old new from h done (AfterExpr (InStatement (heading OfRule name)) [] e)
-    (Emit (RuleOf name e None None)) (step_role-semicolon name e t.token h)
+    map-all_pattern_wildcards : (es : Trees)
+        → map wildcard_variable (all_pattern_wildcards sig es) ≡ all_pattern_variables es
+    map-all_pattern_wildcards no_trees = refl
+    map-all_pattern_wildcards (more_trees e es) =
+        map-append wildcard_variable (pattern_wildcards sig e) (all_pattern_wildcards sig es)
+        ∙ (λ i. map-pattern_wildcards e i ++ map-all_pattern_wildcards es i)
 
--- a rule of a pattern alone whose name and pattern have no fault has none
-pub rule-faultless : (sig : Sig) (earlier : List Statement) (name : Spot) (e : Tree)
-    → name_faults MAX_RULES (rule_names earlier) false name ≡ [] → is_large_pattern e ≡ false
-    → whole_pattern_faults sig e ≡ [] → statement_faults sig earlier (RuleOf name e None None) ≡ []
-rule-faultless sig earlier name e h small k =
-    nil-both (name_faults MAX_RULES (rule_names earlier) (is_large_rule e None None) name) (rule_faults sig e None None)
-    (ap (λ b. name_faults MAX_RULES (rule_names earlier) (b || false) name) small ∙ h)
-    (nil-both (whole_pattern_faults sig e) [] k refl)
+module _ (sig : Sig) (e : Tree) (p : Pattern) (ws : List PatternWildcard) (whole : IsWholePatternOf sig e p ws)
+    (x : Option Tree) (c : Option Condition) where
+  -- a rule whose pattern isn't large is large where its template or its condition is
+  pub is_large_rule-whole : is_large_rule e x c ≡ (has_large_template x || has_large_condition c)
+  is_large_rule-whole = ap (λ b. b || (has_large_template x || has_large_condition c)) whole.small
+
+  -- a rule whose pattern has no fault has those of its template and its condition
+  pub rule_faults-whole : rule_faults sig e x c
+      ≡ arrow_faults (map wildcard_variable ws) sig x ++ if_faults sig (Some (map wildcard_variable ws)) c
+  rule_faults-whole =
+      ap (λ l. l ++ (arrow_faults (pattern_variables e) sig x ++ if_faults sig (Some (pattern_variables e)) c))
+      whole.faultless
+      ∙ ap (λ vs. arrow_faults vs sig x ++ if_faults sig (Some vs) c)
+      (sym (ap (map wildcard_variable) whole.wildcards ∙ map-pattern_wildcards sig e))

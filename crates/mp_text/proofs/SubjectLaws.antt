@@ -1,18 +1,14 @@
 -- The word that begins a statement, and how large the term of a subject is.
-use Rattle.std.proofs.Common.{◌≡◌, ◌-◌, ℕ, true, false, List, ◌∷◌, arith, rules, ltb, refl, ap, ◌∙◌}
+use Rattle.std.proofs.Common.{◌≡◌, ◌-◌, ℕ, true, false, List, ◌∷◌, arith, rules, ltb, ap, ◌∙◌}
 use Rattle.std.proofs.lemmas.Slice.Eq.{bytes_eq-Decides}
 use Rattle.mp_parser.specs.Tokens.{Token, Word, Placed}
 use Rattle.mp_parser.specs.Lexing.{behind}
 use Rattle.mp_parser.specs.Syntax.{Tree, Statement}
 use Rattle.mp_parser.specs.Machine.{State, Top, Go, keyword, is_word, step, run}
+use Rattle.mp_parser.proofs.ConditionRuns.{behind-word}
 use Rattle.mp_parser.proofs.Runs.{one-step}
 use Rattle.mp_pattern.specs.declared.limits.TheConstants.{MAX_TERM_NODES}
 use Rattle.mp_build.specs.Checks.{nodes, has_large_default, is_large_term}
-
--- behind a word lie the other tokens
-behind-word : (text : List ℕ) (t : Token) (ts : List Placed) → is_word text t ≡ true → behind t ts ≡ ts
-behind-word text (Word w) ts h = refl
-behind-word text _ ts h = absurd cc
 
 -- a word that begins a statement leads on
 step-keyword : (text : List ℕ) (to : State) (t : Placed) → keyword text ≡ Go to → is_word text t.token ≡ true

@@ -47,12 +47,16 @@ module _ (sig : Sig) where
     pub count : number ≡ all_nodes (trees exprs)
     pub small : some_large_default (trees exprs) ≡ false
 
-  -- An expression is passed in which no bracket is open yet: it isn't too large and has no fault as the pattern of a
-  -- rule, which is this one.
-  pub record IsWholePatternRead (p : Pattern) (old new : List Placed) : Type 0 where
+  -- the expression isn't too large and has no fault as the pattern of a rule, which is this one, with these wildcards
+  pub record IsWholePatternOf (expr : Tree) (p : Pattern) (ws : List PatternWildcard) : Type 0 where
+    pub faultless : whole_pattern_faults sig expr ≡ []
+    pub pattern : p ≡ pattern_of sig expr
+    pub wildcards : ws ≡ pattern_wildcards sig expr
+    pub small : is_large_pattern expr ≡ false
+
+  -- An expression is passed in which no bracket is open yet, and which is so.
+  pub record IsWholePatternRead (p : Pattern) (ws : List PatternWildcard) (old new : List Placed) : Type 0 where
     pub expr : Tree
     pub read : (done : List Statement) (x : Within) (k : List Frame) → HasRoom k MAX_OPEN
         → run done (BeforeExpr x k) old ≡ run done (AfterExpr x k expr) new
-    pub faultless : whole_pattern_faults sig expr ≡ []
-    pub pattern : p ≡ pattern_of sig expr
-    pub small : is_large_pattern expr ≡ false
+    pub whole : IsWholePatternOf expr p ws

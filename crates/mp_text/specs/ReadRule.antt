@@ -1,18 +1,28 @@
--- Rules of a pattern alone that are read without a tree of their expressions.
-use Rattle.std.specs.Prelude.{◌≡◌, List, [], ◌∷◌, ◌++◌, None, false}
+-- Rules that are read without a tree of their pattern.
+use Rattle.std.specs.Prelude.{◌≡◌, List, [], ◌∷◌, ◌++◌, Option}
 use Rattle.mp_term.specs.Signature.{Sig}
 use Rattle.mp_pattern.specs.PatternTree.{Pattern}
 use Rattle.mp_parser.specs.Tokens.{Placed}
-use Rattle.mp_parser.specs.Syntax.{Spot, Tree, Statement, RuleOf}
-use Rattle.mp_parser.specs.Machine.{Top, run}
-use Rattle.mp_build.specs.Build.{pattern_of}
-use Rattle.mp_build.specs.Checks.{whole_pattern_faults, is_large_pattern}
+use Rattle.mp_parser.specs.Syntax.{Spot, Tree, Condition, Statement, RuleOf}
+use Rattle.mp_parser.specs.Machine.{Top, AfterExpr, InStatement, OfRule, heading, run}
+use Rattle.mp_build.specs.Scope.{Variable}
+use Rattle.mp_build.specs.Wildcards.{PatternWildcard}
+use Rattle.mp_text.specs.ReadPattern.{IsWholePatternOf}
 
--- A statement is passed, which gives a rule of this name a pattern without a fault, which is this one, and neither a
--- template nor a condition.
-pub record IsRuleRead (sig : Sig) (name : Spot) (p : Pattern) (old new : List Placed) : Type 0 where
+-- The front of a statement is passed, which gives a rule this name and a pattern that isn't too large and has no fault:
+-- this one, with these wildcards.
+pub record IsRuleHeadRead (sig : Sig) (name : Spot) (p : Pattern) (ws : List PatternWildcard) (old new : List Placed)
+    : Type 0 where
   pub expr : Tree
-  pub read : (done : List Statement) → run done Top old ≡ run (done ++ RuleOf name expr None None ∷ []) Top new
-  pub faultless : whole_pattern_faults sig expr ≡ []
-  pub pattern : p ≡ pattern_of sig expr
-  pub small : is_large_pattern expr ≡ false
+  pub read : (done : List Statement)
+      → run done Top old ≡ run done (AfterExpr (InStatement (heading OfRule name)) [] expr) new
+  pub whole : IsWholePatternOf sig expr p ws
+
+-- what stands behind the pattern of a rule is passed: it gives the rule this template and this condition
+abbrev pub IsRuleEndRead : Option Tree → Option Condition → List Placed → List Placed → Type 0
+IsRuleEndRead x c old new = (done : List Statement) (name : Spot) (e : Tree)
+    → run done (AfterExpr (InStatement (heading OfRule name)) [] e) old ≡ run (done ++ RuleOf name e x c ∷ []) Top new
+
+-- the variable of a wildcard
+abbrev pub wildcard_variable : PatternWildcard → Variable
+wildcard_variable w = record { name = w.wildcard.name; extent = w.extent }

@@ -93,7 +93,7 @@ impl Subjects {
     }
 }
 
-/// An edit statement: the edits of a subject.
+/// An edit statement: the edits of a subject. Contracts see its fields.
 #[derive(Drop)]
 pub struct EditSet {
     /// The number of the subject, from 0.

@@ -1,6 +1,6 @@
 //! Prints whole files.
 
-ghost use Rattle.std.specs.Prelude.{◌≡◌, [], map, Some, option_map, slice_get};
+ghost use Rattle.std.specs.Prelude.{◌≡◌, [], map, option_map, slice_get};
 ghost use Rattle.std.specs.List.{flat_map};
 ghost use Rattle.std.specs.Option.{option_map_or};
 ghost use Rattle.mp_io.specs.Moments.{sunk};

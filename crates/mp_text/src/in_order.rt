@@ -13,7 +13,7 @@ ghost use Rattle.mp_text.specs.Reading.{IsFileOf};
 
 use crate::file::File;
 use crate::reader::{Draft, add_statement, draft_of};
-use crate::rule_reader::{add_pattern, read_rule};
+use crate::rule_reader::{add_head, read_rule_end, read_rule_head};
 use crate::subject::{add_term, read_subject};
 use bumpalo::Bump;
 use mp_build::TextError;
@@ -91,8 +91,9 @@ fn add_next<'a>(
         add_term(alloc, draft, name, term)?;
         return Ok(true);
     }
-    if let Some((name, pattern)) = read_rule(alloc, &draft.file.sig, parser)? {
-        add_pattern(alloc, draft, name, pattern)?;
+    if let Some(head) = read_rule_head(alloc, &draft.file.sig, parser)? {
+        let (template, condition) = read_rule_end(parser, arena)?;
+        add_head(alloc, draft, head, &template, &condition)?;
         return Ok(true);
     }
     let statement = read_statement(parser, arena)?;

@@ -17,7 +17,7 @@ mod term_reader;
 pub use file::{EditSet, EditSets, File, Subject, Subjects};
 pub use file_printer::write_file;
 pub use mp_build::{
-    TextError, TextFault, TextKind, number_of, read_cond, read_loose_cond, read_pattern, read_term,
+    TextError, TextFault, TextKind, read_cond, read_loose_cond, read_pattern, read_term,
 };
 pub use mp_print::{write_cond, write_pattern, write_signature, write_subst, write_term};
 pub use reader::{fault_is_computed, file_is_computed, read_file};

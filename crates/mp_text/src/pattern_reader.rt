@@ -18,16 +18,18 @@ use mp_syntax::{MAX_OPEN, Wildcard, Word};
 use mp_term::{Memory, Signature};
 use std::alloc::Global;
 
-/// Reads the pattern of a rule, in which no bracket is open yet. None says nothing of the tokens, of which some may be
-/// passed then: they are no pattern that has no fault, or one with other forms in it than names, applications to
-/// arguments in brackets, and wildcards without a count and a default, or a wildcard alone, or it is too large.
+/// Reads the pattern of a rule, in which no bracket is open yet, and gives it as it is written, with its wildcards in
+/// order. None says nothing of the tokens, of which some may be passed then: they are no pattern that has no fault, or
+/// one with other forms in it than names, applications to arguments in brackets, and wildcards without a count and a
+/// default, or a wildcard alone, or it is too large.
 pub(crate) fn read_whole_pattern<'a>(
     alloc: Global,
     sig: &Signature,
     parser: &mut Parser<'a>,
-) -> Result<Option<Pattern>, Memory>
+) -> Result<Option<(Pattern, Vec<PatternWildcard<'a>>)>, Memory>
     ensures read { IfOk result (λ o. IfSome o (λ p.
-        IsWholePatternRead sig.now (pattern_tree p) (ahead parser.old) (ahead parser.new))) }
+        IsWholePatternRead sig.now (pattern_tree p.0) (map wildcard_view p.1.items) (ahead parser.old)
+        (ahead parser.new))) }
     ensures shorter { IfOk result (λ o. IfSome o (λ p. length (ahead parser.new) < length (ahead parser.old))) }
 {
     let mut left = MAX_VARIABLES;
@@ -39,7 +41,7 @@ pub(crate) fn read_whole_pattern<'a>(
     if let Pattern::Wild(..) = pattern {
         return Ok(None);
     }
-    Ok(Some(pattern))
+    Ok(Some((pattern, wildcards)))
 }
 
 /// Reads a pattern of at most `left` nodes behind these wildcards of the same rule, in which at most `room` brackets

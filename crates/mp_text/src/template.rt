@@ -9,7 +9,7 @@ ghost use Rattle.mp_build.specs.Build.{template_of};
 ghost use Rattle.mp_build.specs.Checks.{sign_faults};
 ghost use Rattle.mp_build.specs.ConditionChecks.{unbound_faults};
 ghost use Rattle.mp_build.specs.ScopeView.{variable_of};
-ghost use Rattle.mp_build.specs.TemplateChecks.{is_large_template, has_large_template, loose_template_faults};
+ghost use Rattle.mp_build.specs.TemplateChecks.{has_large_template, loose_template_faults};
 ghost use Rattle.mp_build.specs.TemplateChecks.{template_faults, template_operand_faults, all_template_faults};
 ghost use Rattle.mp_build.specs.TemplateChecks.{whole_template_faults, arrow_faults};
 

@@ -3,8 +3,7 @@ use Rattle.std.specs.Prelude.{codes}
 use Rattle.mp_parser.specs.Machine.{AfterRole, AfterName, InStatement, OfRule, heading}
 use Rattle.mp_parser.specs.View.{placed, spot_of}
 use Rattle.mp_text.proofs.SubjectLaws.{over-keyword}
-use Rattle.mp_text.proofs.RuleReaderLaws.{over-end}
-use Rattle.mp_text.proofs.rule_reader.rule_at.Goals as goal
+use Rattle.mp_text.proofs.rule_reader.head_at.Goals as goal
 
 pub returns-clause-read : goal.returns-clause-read
 returns-clause-read c =
@@ -17,10 +16,6 @@ returns-clause-read c =
           c.advance.ensures (sym c.sees_word.ensures ∙ c.if-not-sees_word.false)
           ∙ c.in-Ok.ensures.read done (AfterRole OfRule) (λ w. AfterName (heading OfRule w)) (λ u. refl)
           ∙ c.in-Ok-expect.ensures.read done (AfterName (heading OfRule name)) _ refl
-          ∙ p.read done (InStatement (heading OfRule name)) [] refl
-          ∙ over-end done name p.expr (placed c.read_whole_pattern.new.parser.token) _ _ c.advance-2.ensures
-          (sym c.sees.ensures ∙ c.if-not-sees.false);
-      faultless = p.faultless;
-      pattern = p.pattern;
-      small = p.small;
+          ∙ p.read done (InStatement (heading OfRule name)) [] refl;
+      whole = p.whole;
     }
