@@ -2,7 +2,7 @@
 
 ghost use Rattle.std.specs.Prelude.{◌≡◌};
 
-use crate::values::{name, names, no_operations, operation, term};
+use crate::values::{name, names, no_operations, operation, term, terms};
 use mp_term::{
     Edit, Edits, KindId, Name, OpDecl, Position, Sign, Signature, Term, Terms, copy_term,
     node_count, normalise, same_bytes, well_formed,
@@ -148,4 +148,18 @@ fn edits_are_listed(rt: HostRuntime) {
     let mut edits = Edits::new(rt.alloc());
     edits.push(edit(&rt, rt.alloc())).expect(&rt, "memory");
     assert!(rt; edits.len() == 1 && edits.get(0).is_some());
+}
+
+// The symbol.
+fn is_symbol(term: &Term, text: &[u8]) -> bool {
+    matches!(term, Term::Sym(name) if name.bytes() == text)
+}
+
+#[test]
+fn a_term_is_replaced_at_its_index(rt: HostRuntime) {
+    let mut terms = terms(&rt, rt.alloc(), b"abc");
+    assert!(rt; terms.len() == 3, "terms");
+    let before = terms.replace(1, term(&rt, rt.alloc(), b"d"));
+    assert!(rt; is_symbol(&before, b"b"));
+    assert!(rt; terms.get(1).is_some_and(|now| is_symbol(now, b"d")));
 }

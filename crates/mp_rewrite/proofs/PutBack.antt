@@ -1,7 +1,7 @@
 -- Terms put in among the arguments of a normal application.
 use Rattle.std.proofs.Common.{◌≡◌, ◌∙◌, ap, sym, refl, subst, ℕ, zero, suc, ◌+◌, ◌<◌, ◌≤◌, Bool, true, false, ◌&&◌, not}
-use Rattle.std.proofs.Common.{List, [], ◌∷◌, ◌++◌, length, take, drop, arith, append_assoc, eqb-true}
-use Rattle.std.specs.Prelude.{slice_get, Some, if◌then◌else◌}
+use Rattle.std.proofs.Common.{List, [], ◌∷◌, ◌++◌, length, take, drop, arith, append_assoc, eqb-true, ◌⊎◌, inl, inr}
+use Rattle.std.specs.Prelude.{slice_get, slice_set, Some, if◌then◌else◌}
 use Rattle.std.specs.Prelude.{is_some}
 use Rattle.std.specs.List.{insert, remove, AllByRecursion}
 use Rattle.std.proofs.lemmas.Bool.{and_parts, not-true, not-false}
@@ -13,7 +13,7 @@ use Rattle.mp_term.specs.Size.{node_count, node_counts, all_nodes}
 use Rattle.mp_term.specs.Order.{tree_cmp}
 use Rattle.mp_term.specs.OrderLaws.{tree_cmp_total, tree_same}
 use Rattle.mp_term.specs.Sorting.{sorted}
-use Rattle.mp_term.specs.Signature.{Sig, is_assoc, is_comm}
+use Rattle.mp_term.specs.Signature.{Sig, is_assoc, is_comm, is_one}
 use Rattle.mp_term.specs.Normal.{parts, flattened, in_order, collapsed, normal, normals, IsNormal}
 use Rattle.mp_term.specs.NormalTest.{has_head, ascending, passes, all_pass}
 use Rattle.mp_term.proofs.Sorting.{tally, AtLeast, Ascends, tally-sorted, ascends-sorted, one_order}
@@ -40,6 +40,24 @@ last-removed [] i x n e = cc
 last-removed (y ∷ []) zero x n e = let s : x ≡ y = cc in ap (λ z. z ∷ []) s
 last-removed (y ∷ z ∷ xs) zero x n e = absurd (omega (arith, n))
 last-removed (y ∷ xs) (suc i) x n e = ap (λ ys. y ∷ ys) (last-removed xs i x (omega (arith, n)) e)
+
+-- a list in which an item is replaced, by the items on either side
+pub set-between : {X : Type 0} (xs : List X) (i : ℕ) (x : X) → i < length xs
+    → slice_set xs i x ≡ take i (remove xs i) ++ (x ∷ drop i (remove xs i))
+set-between [] i x h = absurd (omega (arith, h))
+set-between (y ∷ xs) zero x h = refl
+set-between (y ∷ xs) (suc i) x h = ap (λ l. y ∷ l) (set-between xs i x (omega (arith, h)))
+
+pub set-insert : {X : Type 0} (xs : List X) (i : ℕ) (x : X) → i < length xs → slice_set xs i x ≡ insert (remove xs i) i x
+set-insert [] i x h = absurd (omega (arith, h))
+set-insert (y ∷ xs) zero x h = refl
+set-insert (y ∷ xs) (suc i) x h = ap (λ l. y ∷ l) (set-insert xs i x (omega (arith, h)))
+
+pub remove-set : {X : Type 0} (xs : List X) (i : ℕ) (x : X) → remove (slice_set xs i x) i ≡ remove xs i
+remove-set [] zero x = refl
+remove-set [] (suc i) x = refl
+remove-set (y ∷ xs) zero x = refl
+remove-set (y ∷ xs) (suc i) x = ap (λ l. y ∷ l) (remove-set xs i x)
 
 pub tally-append : (z : Tree) (xs ys : List Tree)
     → tally tree_cmp z (xs ++ ys) ≡ tally tree_cmp z xs + tally tree_cmp z ys
@@ -144,6 +162,14 @@ module _ (sig : Sig) (f : ℕ) where
         | true ↦ λ a. sorted_same after before (λ z. tally-put_one z i k ts us x)
         | false ↦ λ a. put_one-fixed i k ts us x h (a refl)
       ] e
+
+  -- an application that isn't collapsed
+  pub collapsed-open : (ts : List Tree) → (length ts ≡ 1 → ⊥) ⊎ (is_one sig f ≡ false)
+      → collapsed sig f ts ≡ app f (trees ts)
+  collapsed-open [] h = refl
+  collapsed-open (t ∷ []) (inl h) = absurd (h refl)
+  collapsed-open (t ∷ []) (inr e) = rw e refl
+  collapsed-open (t ∷ u ∷ ts) h = refl
 
   -- an argument that f doesn't open
   pub stays : (t : Tree) (b : Bool) → is_assoc sig f ≡ b → (b && has_head f t) ≡ false → parts sig f t ≡ t ∷ []

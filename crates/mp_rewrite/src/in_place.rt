@@ -1,12 +1,12 @@
 //! A subterm is replaced in place: only the applications above it are brought into normal form again.
-ghost use Rattle.std.specs.Prelude.{◌≡◌, ◌≤◌, ◌+◌, ◌++◌, ◌∷◌, [], ℕ, List, length, take, drop, true, false};
-ghost use Rattle.std.specs.Prelude.{is_some, IfOk, ◌&&◌};
-ghost use Rattle.std.specs.List.{insert};
+ghost use Rattle.std.specs.Prelude.{◌≡◌, ◌≤◌, ◌<◌, ◌+◌, ◌++◌, ◌∷◌, [], ℕ, List, length, take, drop, true, false};
+ghost use Rattle.std.specs.Prelude.{is_some, IfOk, IsTrue, ◌&&◌, ◌⊎◌};
+ghost use Rattle.std.specs.List.{insert, remove};
 ghost use Rattle.mp_term.specs.Tree.{Tree, trees};
 ghost use Rattle.mp_term.specs.View.{tree};
 ghost use Rattle.mp_term.specs.Size.{node_count, all_nodes};
 ghost use Rattle.mp_term.specs.Positions.{subterm};
-ghost use Rattle.mp_term.specs.Signature.{is_assoc, is_comm};
+ghost use Rattle.mp_term.specs.Signature.{is_assoc, is_comm, is_one};
 ghost use Rattle.mp_term.specs.Normal.{parts, in_order, collapsed, normal, IsNormal};
 ghost use Rattle.mp_term.specs.NormalTest.{ascending, has_head};
 ghost use Rattle.mp_pattern.specs.Admission.{Rule};
@@ -196,7 +196,7 @@ fn close(sig: &Signature, op: OpId, args: MarkedArgs) -> Marked
 }
 
 // The normal form of the application to the arguments, which are normal, with another normal one put in at the index.
-fn put_back(
+fn put_among(
     alloc: Global,
     sig: &Signature,
     op: OpId,
@@ -224,6 +224,89 @@ fn put_back(
     let opened = open(alloc, sig, op, changed)?;
     let all = insert_parts(sig, op, args, index, opened)?;
     Ok(close(sig, op, all))
+}
+
+// Whether a term stays at its index among that many arguments of the operation, and the application stays one to them.
+fn stays_there(sig: &Signature, op: OpId, count: usize, term: &Term) -> bool
+    ensures fixed { IsTrue result → is_comm sig.now op.0 ≡ false }
+    ensures whole { IsTrue result → (is_assoc sig.now op.0 && has_head op.0 (tree term.now)) ≡ false }
+    ensures open { IsTrue result → (count ≡ 1 → ⊥) ⊎ (is_one sig.now op.0 ≡ false) }
+{
+    !sig.is_comm(op) && !opens(sig, op, term) && (count != 1 || !sig.is_one(op))
+}
+
+// The application to the arguments with another one put in the place of the one at the index, where it stays there.
+fn put_there(sig: &Signature, op: OpId, args: MarkedArgs, index: usize, changed: Marked) -> Marked
+    requires within { index < length args.terms }
+    requires same { length args.known ≡ length args.terms }
+    requires fixed { is_comm sig.now op.0 ≡ false }
+    requires whole { (is_assoc sig.now op.0 && has_head op.0 (tree changed.term)) ≡ false }
+    requires open { (length args.terms ≡ 1 → ⊥) ⊎ (is_one sig.now op.0 ≡ false) }
+    ensures term { tree result.term ≡ collapsed sig.now op.0 (in_order sig.now op.0
+        (take index (remove args.terms index)
+        ++ (parts sig.now op.0 (tree changed.term) ++ drop index (remove args.terms index)))) }
+    ensures known { (rules : List Rule)
+        → AreKnown sig.now rules (marks (remove args.known index)) (trees (remove args.terms index))
+        → IsKnown sig.now rules (mark_of changed.known) (tree changed.term)
+        → IsKnown sig.now rules (mark_of result.known) (tree result.term) }
+    ensures nodes { (rest : ℕ)
+        → changed.nodes ≡ node_count (tree changed.term) + (all_nodes (remove args.terms index) + 1 + rest)
+        → result.nodes ≡ node_count (tree result.term) + rest }
+{
+    let MarkedArgs {
+        mut terms,
+        known: mut all,
+        nodes: _,
+    } = args;
+    let Marked { term, known, nodes } = changed;
+    terms.replace(index, term);
+    all.set(index, known);
+    Marked {
+        term: Term::App(op, terms),
+        known: Known::Inner(all),
+        nodes,
+    }
+}
+
+// The same as `put_among`, but another one stands at the index, which goes.
+fn put_back(
+    alloc: Global,
+    sig: &Signature,
+    op: OpId,
+    args: MarkedArgs,
+    index: usize,
+    changed: Marked,
+) -> Result<Marked, Memory>
+    requires within { index < length args.terms }
+    requires same { length args.known ≡ length args.terms }
+    requires ascending { is_comm sig.now op.0 ≡ true → ascending (remove args.terms index) ≡ true }
+    ensures term { IfOk result (λ m. tree m.term ≡ collapsed sig.now op.0 (in_order sig.now op.0
+        (take index (remove args.terms index)
+        ++ (parts sig.now op.0 (tree changed.term) ++ drop index (remove args.terms index))))) }
+    ensures known { IfOk result (λ m. (rules : List Rule)
+        → AreKnown sig.now rules (marks (remove args.known index)) (trees (remove args.terms index))
+        → IsKnown sig.now rules (mark_of changed.known) (tree changed.term)
+        → IsKnown sig.now rules (mark_of m.known) (tree m.term)) }
+    ensures nodes { IfOk result (λ m. (rest : ℕ)
+        → changed.nodes ≡ node_count (tree changed.term) + (all_nodes (remove args.terms index) + 1 + rest)
+        → m.nodes ≡ node_count (tree m.term) + rest) }
+{
+    if stays_there(sig, op, args.terms.len(), &changed.term) {
+        return Ok(put_there(sig, op, args, index, changed));
+    }
+    let MarkedArgs {
+        mut terms,
+        mut known,
+        nodes,
+    } = args;
+    terms.remove(index);
+    known.remove(index);
+    let rest = MarkedArgs {
+        terms,
+        known,
+        nodes,
+    };
+    put_among(alloc, sig, op, rest, index, changed)
 }
 
 // The normal form of the term, which is normal, with the subterm at the position replaced by another normal term.
@@ -261,17 +344,17 @@ pub(crate) fn put_in(
         Term::App(op, mut terms) => {
             let mut all = known_args(alloc, known, terms.len())?;
             let old = Marked {
-                term: terms.remove(index),
-                known: all.remove(index),
+                term: terms.replace(index, Term::App(op, Terms::new(alloc))),
+                known: all.take(index),
                 nodes,
             };
             let changed = put_in(alloc, sig, old, below, new)?;
-            let rest = MarkedArgs {
+            let args = MarkedArgs {
                 terms,
                 known: all,
                 nodes: 0,
             };
-            let whole = put_back(alloc, sig, op, rest, index, changed)?;
+            let whole = put_back(alloc, sig, op, args, index, changed)?;
             Ok(whole)
         }
     }

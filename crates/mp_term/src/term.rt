@@ -1,5 +1,5 @@
 //! Terms, and lists of them.
-ghost use Rattle.std.specs.Prelude.{◌≡◌, ◌<◌, ◌≤◌, ◌-◌, ◌^◌, [], ◌∷◌, ◌++◌, length, map, slice_get, OnOk};
+ghost use Rattle.std.specs.Prelude.{◌≡◌, ◌<◌, ◌≤◌, ◌-◌, ◌^◌, [], ◌∷◌, ◌++◌, length, map, slice_get, slice_set, OnOk};
 ghost use Rattle.std.specs.Prelude.{OnErr, IfOk, min, Some, option_map};
 ghost use Rattle.std.specs.List.{insert, remove};
 ghost use Rattle.mp_term.specs.View.{tree};
@@ -10,6 +10,7 @@ use crate::memory::Memory;
 use crate::name::Name;
 use std::alloc::Global;
 use std::marker::Model;
+use std::mem;
 
 /// The number of an operation in its signature, from 0 in order of declaration.
 #[derive(Debug, Drop, Clone, Copy, PartialEq, Eq, PartialOrd, Ord)]
@@ -100,6 +101,15 @@ impl Terms {
         ensures rest { self.new ≡ remove self.old index }
     {
         self.items.remove(index)
+    }
+
+    /// Puts a term in the place of the one at an index from 0, which comes out.
+    pub fn replace(&mut self, index: usize, term: Term) -> Term
+        requires { index < length self.old }
+        ensures term { slice_get self.old index ≡ Some (tree result) }
+        ensures left { self.new ≡ slice_set self.old index (tree term) }
+    {
+        mem::replace(&mut self.items[index], term)
     }
 
     /// The number of terms.
