@@ -1,6 +1,7 @@
 //! Why a rule file can't be read.
 
-ghost use Rattle.std.specs.Prelude.{◌≡◌};
+ghost use Rattle.std.specs.Prelude.{◌≡◌, Ok, Err, IfOk, IfErr, IfSome, IfNone};
+ghost use Rattle.mp_build.specs.declared.fault.TextFault.{TextFault};
 ghost use Rattle.mp_build.specs.declared.fault.TextError.TheVariants.{Text};
 ghost use Rattle.mp_build.specs.declared.fault.TextError.TheVariants as errors;
 ghost use Rattle.mp_build.specs.Checks.{fault_at};
@@ -141,4 +142,18 @@ pub fn error_at(kind: TextKind, place: Place) -> TextError
         line: place.line,
         column: place.column,
     })
+}
+
+/// The value of what was built, or None where that has a fault. `Memory` comes where memory ran out.
+#[inline(always)]
+pub fn if_faultless<T>(built: Result<T, TextError>) -> Result<Option<T>, Memory>
+    ensures value { IfOk result (λ o. IfSome o (λ v. built ≡ Ok v)) }
+    ensures fault { IfOk result (λ o. IfNone o ((f : TextFault) × (built ≡ Err (Text f)))) }
+    ensures memory { IfErr result (λ e. built ≡ Err errors.Memory) }
+{
+    match built {
+        Ok(value) => Ok(Some(value)),
+        Err(TextError::Text(_)) => Ok(None),
+        Err(TextError::Memory) => Err(Memory),
+    }
 }

@@ -37,7 +37,7 @@ pub use condition_size::is_large_condition;
 pub use declaration::{check_name, declare};
 pub use edit::{build_edits, check_edits_of, is_large_edit};
 pub use extent::Extent;
-pub use fault::{TextError, TextFault, TextKind, error_at};
+pub use fault::{TextError, TextFault, TextKind, error_at, if_faultless};
 pub use normal::{normal_built_pattern, normal_pattern};
 pub use operations::find_decl;
 pub use scope::{Scope, Variable, is_bound, is_bound_sequence, pattern_variables};
