@@ -12,14 +12,11 @@ use Rattle.mp_walk.specs.Instrs.{Instr}
 use Rattle.mp_walk.specs.Walkable.{Path}
 use Rattle.mp_many.specs.declared.group.Group.{Group}
 use Rattle.mp_many.specs.GroupView.{group_of, numbers_of}
-use Rattle.mp_many.specs.Digest.{token_digest}
-use Rattle.mp_many.specs.Groups.{entered, grouped, left_at, count_from, AreApart}
+use Rattle.mp_many.specs.Groups.{entered, grouped, left_at, count_from}
 use Rattle.mp_many.specs.Laid.{Numbered, bare, left_after, target, each_laid, laid, unlinked, linked}
 use Rattle.mp_many.specs.Laid.{numbered_from}
-use Rattle.mp_many.specs.Marks.{has_mark, AreMarked}
 use Rattle.mp_many.specs.Prefixes.{heads}
 use Rattle.mp_many.specs.TokenView.{read_token}
-use Rattle.mp_many.proofs.ApartLaws.{apart-before, marked-at}
 use Rattle.mp_many.proofs.GroupLaws.{AreWithin, numbers_after, left-numbers, numbers-within}
 use Rattle.mp_many.proofs.RowLaws.{get_or-same, drop-next, entered-pass, entered-at, pushed, target-more}
 use Rattle.mp_many.proofs.RowLaws.{laid-step}
@@ -31,8 +28,9 @@ group-read : (gs : List Group) (i : ℕ) (g : Group) → i < length gs → g ≡
     → get_or (map group_of gs) i (group_of g) ≡ group_of g
 group-read gs i g h e = get_or-map group_of gs i g (group_of g) h ∙ ap group_of (sym e)
 
-pub enter-set : (gs : List Group) (k : NetToken) (n i : ℕ) (g h new : Group) → i < length gs → g ≡ get_or gs i g
-    → h ≡ get_or gs i h → same_token (read_token g.token) k ≡ true → group_of new ≡ pushed (group_of h) n
+pub enter-set : (gs : List Group) (k : NetToken) (n : List ℕ) (i : ℕ) (g h new : Group) → i < length gs
+    → g ≡ get_or gs i g → h ≡ get_or gs i h → same_token (read_token g.token) k ≡ true
+    → group_of new ≡ pushed (group_of h) n
     → entered (map group_of gs) k n ≡ take i (map group_of gs) ++ entered (drop i (map group_of gs)) k n
     → map group_of (set gs i new) ≡ entered (map group_of gs) k n
 enter-set gs k n i g h new within e f s p q =
@@ -44,34 +42,13 @@ enter-set gs k n i g h new within e f s p q =
     map-set group_of gs i new ∙ ap (set (map group_of gs) i) (p ∙ ap (λ x. pushed x n) (sym r))
     ∙ sym (entered-at (map group_of gs) k n i (group_of h) w t q)
 
-pub enter-pass : (gs : List Group) (k : NetToken) (n i : ℕ) (g : Group) → i < length gs → g ≡ get_or gs i g
+pub enter-pass : (gs : List Group) (k : NetToken) (n : List ℕ) (i : ℕ) (g : Group) → i < length gs → g ≡ get_or gs i g
     → same_token (read_token g.token) k ≡ false
     → entered (map group_of gs) k n ≡ take i (map group_of gs) ++ entered (drop i (map group_of gs)) k n
     → entered (map group_of gs) k n ≡ take (i + 1) (map group_of gs) ++ entered (drop (i + 1) (map group_of gs)) k n
 enter-pass gs k n i g within e s q =
     entered-pass (map group_of gs) k n i (group_of g) (omega (arith, within, length-map gs group_of))
     (ap (λ x. same_token x.0 k) (group-read gs i g within e) ∙ s) q
-
--- the group of an index has the token
-token-read : (gs : List Group) (k : NetToken) (i : ℕ) (g : Group) → i < length gs → g ≡ get_or gs i g
-    → same_token (read_token g.token) k ≡ true → same_token (get_or (map group_of gs) i (group_of g)).0 k ≡ true
-token-read gs k i g h e s = ap (λ x. same_token x.0 k) (group-read gs i g h e) ∙ s
-
--- a number is added to a group of its token, and there is no other one
-pub enter-own : (gs : List Group) (k : NetToken) (n i : ℕ) (g h new : Group) → i < length gs → g ≡ get_or gs i g
-    → h ≡ get_or gs i h → same_token (read_token g.token) k ≡ true → group_of new ≡ pushed (group_of h) n
-    → AreApart (map group_of gs) → map group_of (set gs i new) ≡ entered (map group_of gs) k n
-enter-own gs k n i g h new within e f s p a =
-    enter-set gs k n i g h new within e f s p (apart-before (map group_of gs) k n i (group_of g) a
-    (omega (arith, within, length-map gs group_of)) (token-read gs k i g within e s))
-
--- that token has its mark
-pub own-marked : (ms : List Bool) (gs : List Group) (k : NetToken) (i : ℕ) (g : Group) → i < length gs
-    → g ≡ get_or gs i g → same_token (read_token g.token) k ≡ true → AreMarked ms (map group_of gs)
-    → has_mark ms (token_digest k) ≡ true
-own-marked ms gs k i g within e s a =
-    marked-at ms (map group_of gs) k i (group_of g) a (omega (arith, within, length-map gs group_of))
-    (token-read gs k i g within e s)
 
 -- the group of an index, among the groups of lists
 pub group-at : (gs : List Group) (ls : List Numbered) (i : ℕ) (g : Group) → map group_of gs ≡ grouped ls

@@ -1,8 +1,7 @@
 -- Groups that hold the digests of their tokens.
-use Rattle.std.proofs.Common.{◌≡◌, ◌<◌, ℕ, zero, suc, List, [], ◌∷◌, ◌++◌, length, get_or, set, Bool, true}
+use Rattle.std.proofs.Common.{◌≡◌, ◌<◌, ℕ, zero, suc, List, [], ◌∷◌, length, get_or, set, Bool, true}
 use Rattle.std.proofs.Common.{false, refl, ap, sym, ◌∙◌, subst, arith}
 use Rattle.std.specs.List.{AllByRecursion}
-use Rattle.mp_term.proofs.ListLaws.{all-append}
 use Rattle.mp_pattern.specs.NetTokens.{NetToken, same_token}
 use Rattle.mp_pattern.specs.NetTokenLaws.{same_token-is}
 use Rattle.mp_many.specs.Digest.{token_digest}
@@ -35,8 +34,3 @@ pub digested-set : (gs : List Group) (i : ℕ) (g : Group) → AllByRecursion Is
 digested-set [] i g a d = tt
 digested-set (x ∷ gs) zero g a d = (d, a.1)
 digested-set (x ∷ gs) (suc i) g a d = (a.0, digested-set gs i g a.1 d)
-
--- one group more
-pub digested-push : (gs : List Group) (g : Group) → AllByRecursion IsDigested gs → IsDigested g
-    → AllByRecursion IsDigested (gs ++ g ∷ [])
-digested-push gs g a d = all-append IsDigested gs (g ∷ []) a (d, tt)

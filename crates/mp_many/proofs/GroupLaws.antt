@@ -21,7 +21,7 @@ use Rattle.mp_many.proofs.TokenLists.{same_token-turned}
 -- the groups with a list entered, if it has a token
 abbrev pub entered_first : List Group → Numbered → List Group
 entered_first gs (n, []) = gs
-entered_first gs (n, k ∷ ks) = entered gs k n
+entered_first gs (n, k ∷ ks) = entered gs k (n ∷ [])
 
 -- and with lists entered in turn
 abbrev pub entered_all : List Group → List Numbered → List Group
@@ -111,14 +111,15 @@ module _ (j : NetToken) (n : ℕ) (js : Path) (ls : List Numbered) where
 
   -- a token that is there already
   enter-known : (ks : List NetToken) → Distinct same_token ks → is_known same_token ks j ≡ true
-      → map group_more ks ≡ entered (map group ks) j n
+      → map group_more ks ≡ entered (map group ks) j (n ∷ [])
   enter-known [] d e = cc
   enter-known (k ∷ ks) d e = at (same_token k j) refl e (enter-known ks d.1)
     where
       at : (b : Bool) → same_token k j ≡ b → (b || is_known same_token ks j) ≡ true
-          → (is_known same_token ks j ≡ true → map group_more ks ≡ entered (map group ks) j n)
+          → (is_known same_token ks j ≡ true → map group_more ks ≡ entered (map group ks) j (n ∷ []))
           → group_more k ∷ map group_more ks
-          ≡ (if b then (k, numbers_after k ls ++ n ∷ []) ∷ map group ks else group k ∷ entered (map group ks) j n)
+          ≡ (if b then (k, numbers_after k ls ++ n ∷ []) ∷ map group ks
+          else group k ∷ entered (map group ks) j (n ∷ []))
       at true s e r =
           let z : k ≡ j = same_token-is k j s in
           let t : same_token j k ≡ true = subst (λ x. same_token j x ≡ true) (sym z) (same_token-itself j) in
@@ -129,18 +130,19 @@ module _ (j : NetToken) (n : ℕ) (js : Path) (ls : List Numbered) where
 
   -- and a new one
   enter-new : (ks : List NetToken) → is_known same_token ks j ≡ false → left_after j ls ≡ []
-      → map group_more (ks ++ (j ∷ [])) ≡ entered (map group ks) j n
+      → map group_more (ks ++ (j ∷ [])) ≡ entered (map group ks) j (n ∷ [])
   enter-new [] e none = ap (λ ns. (j, ns) ∷ [])
       (numbers-own j j n js ls (same_token-itself j) ∙ ap (λ ms. map (λ l. l.0) ms ++ (n ∷ [])) none)
   enter-new (k ∷ ks) e none =
       let both = or_parts (same_token k j) (is_known same_token ks j) e in
       rw both.0 (λ i. (k, numbers-other k j n js ls (same_token-turned k j both.0) i) ∷ enter-new ks both.1 none i)
 
-  enter-token : map group_more (add_new same_token (heads (bare ls)) j) ≡ entered (grouped ls) j n
+  enter-token : map group_more (add_new same_token (heads (bare ls)) j) ≡ entered (grouped ls) j (n ∷ [])
   enter-token = at (is_known same_token (heads (bare ls)) j) refl
     where
       at : (b : Bool) → is_known same_token (heads (bare ls)) j ≡ b
-          → map group_more (if b then heads (bare ls) else heads (bare ls) ++ (j ∷ [])) ≡ entered (grouped ls) j n
+          → map group_more (if b then heads (bare ls) else heads (bare ls) ++ (j ∷ []))
+          ≡ entered (grouped ls) j (n ∷ [])
       at true k = enter-known (heads (bare ls)) (distinct-firsts same_token [] (flat_map head_of (bare ls)) tt) k
       at false k = enter-new (heads (bare ls)) k
           (left-none j ls (unknown-firsts [] (flat_map head_of (bare ls)) j k).1)

@@ -84,12 +84,3 @@ dropped-at (x ∷ xs) (suc start) place =
 pub part-at : {X : Type 0} (xs : List X) (start count place : ℕ) → place < count
     → slice_get (take count (drop start xs)) place ≡ slice_get xs (start + place)
 part-at xs start count place h = taken-at (drop start xs) count place h ∙ dropped-at xs start place
-
--- a place in the first items of a list
-pub place-taken : {X : Type 0} (count place : ℕ) (xs : List X) → place < length (take count xs) → place < count
-place-taken zero place [] h = h
-place-taken zero place (x ∷ xs) h = h
-place-taken (suc count) place [] h = absurd (omega (arith, h))
-place-taken (suc count) zero (x ∷ xs) h = omega arith
-place-taken (suc count) (suc place) (x ∷ xs) h = let e = place-taken count place xs (omega (arith, h)) in
-    omega (arith, e)

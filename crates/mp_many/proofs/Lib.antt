@@ -3,12 +3,12 @@ pub mod LaidLaws
 pub mod StateLaws
 mod TokenLaws
 mod KeptLaws
+mod SpanLaws
 mod ChainLaws
 mod GroupLaws
 mod DigestLaws
 mod RowLaws
-mod SharedLaws
-mod ApartLaws
+mod RunLaws
 pub mod TreeLaws
 mod CodeLaws
 pub mod WalkableLaws

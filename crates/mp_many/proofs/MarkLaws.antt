@@ -27,41 +27,27 @@ set-own ms d h w =
     ∙ ap (λ n. get_or (set ms (d % length ms) true) (d % n) false) (length-set ms (d % length ms) true)
     ∙ get_or-set_same ms (d % length ms) true false w
 
--- a mark that is there stays as another one is set
-stays : (ms : List Bool) (i j : ℕ) → get_or ms j false ≡ true → get_or (set ms i true) j false ≡ true
-stays [] i j e = e
-stays (m ∷ ms) zero zero e = refl
-stays (m ∷ ms) zero (suc j) e = e
-stays (m ∷ ms) (suc i) zero e = e
-stays (m ∷ ms) (suc i) (suc j) e = stays ms i j e
-
-pub set-others : (ms : List Bool) (i d : ℕ) → 0 < length ms → has_mark ms d ≡ true → has_mark (set ms i true) d ≡ true
-set-others ms i d h e =
-    has_mark-some (set ms i true) d (omega (arith, h, length-set ms i true))
-    ∙ ap (λ n. get_or (set ms i true) (d % n) false) (length-set ms i true)
-    ∙ stays ms i (d % length ms) (sym (has_mark-some ms d h) ∙ e)
-
 -- where a digest has no mark, its token is new
-pub entered-new : (ms : List Bool) (gs : List Group) (k : NetToken) (n : ℕ) → AreMarked ms gs
-    → has_mark ms (token_digest k) ≡ false → entered gs k n ≡ gs ++ (k, n ∷ []) ∷ []
+pub entered-new : (ms : List Bool) (gs : List Group) (k : NetToken) (n : List ℕ) → AreMarked ms gs
+    → has_mark ms (token_digest k) ≡ false → entered gs k n ≡ gs ++ (k, n) ∷ []
 entered-new ms [] k n a e = refl
 entered-new ms (g ∷ gs) k n a e = by_test (same_token g.0 k) refl (entered-new ms gs k n a.1 e)
   where
-    by_test : (b : Bool) → same_token g.0 k ≡ b → entered gs k n ≡ gs ++ (k, n ∷ []) ∷ []
-        → (if b then (g.0, g.1 ++ n ∷ []) ∷ gs else g ∷ entered gs k n) ≡ g ∷ (gs ++ (k, n ∷ []) ∷ [])
+    by_test : (b : Bool) → same_token g.0 k ≡ b → entered gs k n ≡ gs ++ (k, n) ∷ []
+        → (if b then (g.0, g.1 ++ n) ∷ gs else g ∷ entered gs k n) ≡ g ∷ (gs ++ (k, n) ∷ [])
     by_test false is rest = ap (λ hs. g ∷ hs) rest
     by_test true is rest =
         let z : true ≡ false =
         sym a.0 ∙ ap (λ j. has_mark ms (token_digest j)) (same_token-is g.0 k is) ∙ e in cc
 
 -- the groups with a list entered are marked, where its token is
-pub entered-marked : (ms : List Bool) (gs : List Group) (k : NetToken) (n : ℕ) → AreMarked ms gs
+pub entered-marked : (ms : List Bool) (gs : List Group) (k : NetToken) (n : List ℕ) → AreMarked ms gs
     → has_mark ms (token_digest k) ≡ true → AreMarked ms (entered gs k n)
 entered-marked ms [] k n a e = (e, tt)
 entered-marked ms (g ∷ gs) k n a e = by_test (same_token g.0 k) (entered-marked ms gs k n a.1 e)
   where
     by_test : (b : Bool) → AreMarked ms (entered gs k n)
-        → AreMarked ms (if b then (g.0, g.1 ++ n ∷ []) ∷ gs else g ∷ entered gs k n)
+        → AreMarked ms (if b then (g.0, g.1 ++ n) ∷ gs else g ∷ entered gs k n)
     by_test true rest = (a.0, a.1)
     by_test false rest = (a.0, rest)
 

@@ -12,7 +12,7 @@ use Rattle.mp_walk.specs.Instrs.{Instr}
 use Rattle.mp_walk.specs.Walkable.{Path}
 use Rattle.mp_many.specs.Laid.{Numbered, left_after, ended, target, each_laid, unlinked, linked}
 use Rattle.mp_many.specs.Groups.{Group, entered, left_at}
-use Rattle.mp_many.proofs.GroupLaws.{entered_first, entered_all, AreWithin}
+use Rattle.mp_many.proofs.GroupLaws.{AreWithin}
 
 -- ---- one list more
 
@@ -26,15 +26,9 @@ drop-next xs i d h = let e : suc i ≡ i + 1 = omega arith in
     drop-cons xs i d h ∙ ap (λ j. get_or xs i d ∷ drop j xs) e
 
 -- the list of the next number
-pub left-step : (lists : List Path) (place : ℕ) (ns : List ℕ) (i : ℕ) (l : Path) → i < length ns
-    → AreWithin lists (drop i ns) → l ≡ get_or lists (get_or ns i 0) l
-    → left_at lists place (drop i ns) ≡ (get_or ns i 0, drop place l) ∷ left_at lists place (drop (i + 1) ns)
-left-step lists place ns i l h w e =
-    let d = drop-next ns i 0 h in
-    let v : AreWithin lists (get_or ns i 0 ∷ drop (i + 1) ns) = subst (AreWithin lists) d w in
-    ap (left_at lists place) d
-    ∙ ap (λ m. (get_or ns i 0, drop place m) ∷ left_at lists place (drop (i + 1) ns))
-    (get_or-same lists (get_or ns i 0) [] l v.0 ∙ sym e)
+left-step : (lists : List Path) (place : ℕ) (ns : List ℕ) (i : ℕ) → i < length ns → left_at lists place (drop i ns)
+    ≡ (get_or ns i 0, drop place (get_or lists (get_or ns i 0) [])) ∷ left_at lists place (drop (i + 1) ns)
+left-step lists place ns i h = ap (left_at lists place) (drop-next ns i 0 h)
 
 pub within-step : (lists : List Path) (ns : List ℕ) (i : ℕ) → i < length ns → AreWithin lists (drop i ns)
     → (get_or ns i 0 < length lists) × AreWithin lists (drop (i + 1) ns)
@@ -42,21 +36,10 @@ within-step lists ns i h w =
     let v : AreWithin lists (get_or ns i 0 ∷ drop (i + 1) ns) = subst (AreWithin lists) (drop-next ns i 0 h) w in
     (v.0, v.1)
 
--- what is entered of it, where it has a token at the place
-abbrev pub entered_by : List Group → ℕ → Option NetToken → List Group
-entered_by gs n None = gs
-entered_by gs n (Some k) = entered gs k n
-
+-- what ends of it, where it has no token at the place
 abbrev pub ended_by : ℕ → Option NetToken → List ℕ
 ended_by n None = n ∷ []
 ended_by n (Some k) = []
-
-entered-by : (gs : List Group) (n place : ℕ) (l : Path)
-    → entered_first gs (n, drop place l) ≡ entered_by gs n (slice_get l place)
-entered-by gs n zero [] = refl
-entered-by gs n (suc place) [] = refl
-entered-by gs n zero (k ∷ l) = refl
-entered-by gs n (suc place) (k ∷ l) = entered-by gs n place l
 
 ended-by : (n place : ℕ) (l : Path) → ended (n, drop place l) ≡ ended_by n (slice_get l place)
 ended-by n zero [] = refl
@@ -64,26 +47,18 @@ ended-by n (suc place) [] = refl
 ended-by n zero (k ∷ l) = refl
 ended-by n (suc place) (k ∷ l) = ended-by n place l
 
-pub entered-step : (lists : List Path) (place : ℕ) (ns : List ℕ) (i : ℕ) (l : Path) (gs : List Group)
-    (o : Option NetToken) → i < length ns → AreWithin lists (drop i ns) → l ≡ get_or lists (get_or ns i 0) l
-    → slice_get l place ≡ o → entered_all gs (left_at lists place (drop i ns))
-    ≡ entered_all (entered_by gs (get_or ns i 0) o) (left_at lists place (drop (i + 1) ns))
-entered-step lists place ns i l gs o h w e g = ap (entered_all gs) (left-step lists place ns i l h w e)
-    ∙ ap (λ hs. entered_all hs (left_at lists place (drop (i + 1) ns)))
-    (entered-by gs (get_or ns i 0) place l ∙ ap (entered_by gs (get_or ns i 0)) g)
-
-pub ended-step : (lists : List Path) (place : ℕ) (ns : List ℕ) (i : ℕ) (l : Path) (o : Option NetToken)
-    → i < length ns → AreWithin lists (drop i ns) → l ≡ get_or lists (get_or ns i 0) l → slice_get l place ≡ o
+pub ended-step : (lists : List Path) (place : ℕ) (ns : List ℕ) (i : ℕ) → i < length ns
     → flat_map ended (left_at lists place (drop i ns))
-    ≡ ended_by (get_or ns i 0) o ++ flat_map ended (left_at lists place (drop (i + 1) ns))
-ended-step lists place ns i l o h w e g = ap (flat_map ended) (left-step lists place ns i l h w e)
+    ≡ ended_by (get_or ns i 0) (slice_get (get_or lists (get_or ns i 0) []) place)
+    ++ flat_map ended (left_at lists place (drop (i + 1) ns))
+ended-step lists place ns i h = ap (flat_map ended) (left-step lists place ns i h)
     ∙ ap (λ ms. ms ++ flat_map ended (left_at lists place (drop (i + 1) ns)))
-    (ended-by (get_or ns i 0) place l ∙ ap (ended_by (get_or ns i 0)) g)
+    (ended-by (get_or ns i 0) place (get_or lists (get_or ns i 0) []))
 
--- ---- one number more
+-- ---- more numbers
 
 -- a group of another token is passed
-pub entered-pass : (gs : List Group) (k : NetToken) (n i : ℕ) (d : Group) → i < length gs
+pub entered-pass : (gs : List Group) (k : NetToken) (n : List ℕ) (i : ℕ) (d : Group) → i < length gs
     → same_token (get_or gs i d).0 k ≡ false → entered gs k n ≡ take i gs ++ entered (drop i gs) k n
     → entered gs k n ≡ take (i + 1) gs ++ entered (drop (i + 1) gs) k n
 entered-pass gs k n i d h s e = e ∙ passed gs i h s
@@ -97,12 +72,12 @@ entered-pass gs k n i d h s e = e ∙ passed gs i h s
         ap (λ xs. g ∷ xs) (passed hs j (omega (arith, h)) s)
         ∙ ap (λ m. take m (g ∷ hs) ++ entered (drop m (g ∷ hs)) k n) q
 
--- the group with a number more
-abbrev pub pushed : Group → ℕ → Group
-pushed g n = (g.0, g.1 ++ n ∷ [])
+-- the group with more numbers
+abbrev pub pushed : Group → List ℕ → Group
+pushed g n = (g.0, g.1 ++ n)
 
--- the number is entered into the group of its token
-pub entered-at : (gs : List Group) (k : NetToken) (n i : ℕ) (d : Group) → i < length gs
+-- the numbers are entered into the group of their token
+pub entered-at : (gs : List Group) (k : NetToken) (n : List ℕ) (i : ℕ) (d : Group) → i < length gs
     → same_token (get_or gs i d).0 k ≡ true → entered gs k n ≡ take i gs ++ entered (drop i gs) k n
     → entered gs k n ≡ set gs i (pushed (get_or gs i d) n)
 entered-at gs k n i d h s e = e ∙ found gs i h s
@@ -114,11 +89,11 @@ entered-at gs k n i d h s e = e ∙ found gs i h s
     found (g ∷ hs) (suc j) h s = ap (λ xs. g ∷ xs) (found hs j (omega (arith, h)) s)
 
 -- or into a new one
-pub entered-new : (gs : List Group) (k : NetToken) (n i : ℕ) → i ≡ length gs
-    → entered gs k n ≡ take i gs ++ entered (drop i gs) k n → entered gs k n ≡ gs ++ ((k, n ∷ []) ∷ [])
+pub entered-new : (gs : List Group) (k : NetToken) (n : List ℕ) (i : ℕ) → i ≡ length gs
+    → entered gs k n ≡ take i gs ++ entered (drop i gs) k n → entered gs k n ≡ gs ++ ((k, n) ∷ [])
 entered-new gs k n i h e = e ∙ ended gs i h
   where
-    ended : (hs : List Group) (j : ℕ) → j ≡ length hs → take j hs ++ entered (drop j hs) k n ≡ hs ++ ((k, n ∷ []) ∷ [])
+    ended : (hs : List Group) (j : ℕ) → j ≡ length hs → take j hs ++ entered (drop j hs) k n ≡ hs ++ ((k, n) ∷ [])
     ended [] zero h = refl
     ended [] (suc j) h = absurd (omega (arith, h))
     ended (g ∷ hs) zero h = absurd (omega (arith, h))

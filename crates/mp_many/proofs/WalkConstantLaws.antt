@@ -1,7 +1,6 @@
 -- The constants of a walk: those of the rules, or none where the tree has none.
-use Rattle.std.proofs.Common.{◌≡◌, ◌≤◌, ◌<◌, ℕ, suc, ◌+◌, List, [], ◌∷◌, ◌++◌, length, drop, ap, sym, ◌∙◌, subst, arith}
+use Rattle.std.proofs.Common.{◌≡◌, ◌≤◌, ◌<◌, ℕ, suc, ◌+◌, List, [], ◌∷◌, ◌++◌, length, drop, ap, ◌∙◌, subst, arith}
 use Rattle.std.specs.Prelude.{Some, flat_map, slice_get}
-use Rattle.std.specs.List.{AllByRecursion}
 use Rattle.std.proofs.lemmas.Option.{get_or_from_slice_get}
 use Rattle.mp_term.specs.Listing.{In, IsListing}
 use Rattle.mp_term.specs.Order.{tree_cmp}
@@ -15,7 +14,6 @@ use Rattle.mp_pattern.proofs.ConstantLaws.{constants-nodes, constants-normal}
 use Rattle.mp_table.specs.declared.limits.TheConstants.{MAX_CONSTANT_NODES}
 use Rattle.mp_walk.specs.CodeConstants.{code_constants, token_constants}
 use Rattle.mp_walk.specs.Instrs.{Instr, instr_at}
-use Rattle.mp_many.specs.Laid.{tree_of}
 use Rattle.mp_many.specs.Many.{Many}
 use Rattle.mp_many.specs.WalkConstants.{AreWalkConstants}
 use Rattle.mp_many.proofs.ConstantLaws.{tree-constants}
@@ -30,20 +28,12 @@ constants-next code n i h at none =
     ap code_constants (drop-next code n i h ∙ ap (λ j. j ∷ drop (n + 1) code) (get_or_from_slice_get code n i i e))
     ∙ ap (λ ts. ts ++ code_constants (drop (n + 1) code)) none
 
--- no terms will do where the tree has no constants
-pub constants-none : (m : Many) → code_constants (tree_of m.sig m.rules) ≡ [] → AreWalkConstants m []
-constants-none m e = record {
-  normal = tt;
-  few = omega arith;
-  held = subst (AllByRecursion (λ u. In u [])) (sym e) tt;
-}
-
 -- the constants of sound rules have few nodes together
 constants-few : (m : Many) (ts : List Tree) → AreSoundRules m.sig m.rules
     → IsListing tree_cmp (IsConstantOf m.rules) ts → all_nodes ts ≤ MAX_CONSTANT_NODES
 constants-few m ts sound l = omega (arith, constants-nodes m.sig m.rules ts sound.each l, sound.few)
 
--- and else those of the rules will do
+-- the constants of the rules will do
 pub constants-rules : (m : Many) (ts : List Tree) → AreSoundRules m.sig m.rules
     → IsListing tree_cmp (IsConstantOf m.rules) ts → AreWalkConstants m ts
 constants-rules m ts sound listed = record {

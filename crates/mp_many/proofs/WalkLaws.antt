@@ -17,11 +17,6 @@ subject-normal sig [] n h = refl
 subject-normal sig (t ∷ ts) zero h = h.0
 subject-normal sig (t ∷ ts) (suc n) h = subject-normal sig ts n h.1
 
--- where the walk stands at no leaf
-pub none-given : (ns : List ℕ) (o : Option Item) (is : List Item) → o ≡ None → drop 1 (given ns o) ++ is ≡ is
-none-given ns None is e = refl
-none-given ns (Some i) is e = cc
-
 -- nothing is left behind the last rule
 last-given : (ns : List ℕ) (o : Option Item) → length ns ≤ 1 → drop 1 (given ns o) ≡ []
 last-given ns None h = refl

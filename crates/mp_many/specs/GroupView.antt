@@ -5,14 +5,14 @@ use Rattle.mp_many.specs.Digest.{token_digest}
 use Rattle.mp_many.specs.Groups as groups
 use Rattle.mp_many.specs.TokenView.{read_token}
 
--- the numbers of a list that is kept where there are several, and of the first alone where there isn't one
-abbrev pub numbers_among : ℕ → List ℕ → List ℕ
-numbers_among first [] = first ∷ []
+-- all numbers where they are kept, and the first ones alone where they aren't
+abbrev pub numbers_among : List ℕ → List ℕ → List ℕ
+numbers_among first [] = first
 numbers_among first (n ∷ ns) = n ∷ ns
 
 -- the numbers of a group
 abbrev pub numbers_of : Group → List ℕ
-numbers_of g = numbers_among g.first g.all.items
+numbers_of g = numbers_among g.first.now g.all.items
 
 -- a group
 abbrev pub group_of : Group → groups.Group

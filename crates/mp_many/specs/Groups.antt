@@ -1,7 +1,6 @@
 -- Groups of numbered lists by their first tokens.
-use Rattle.std.specs.Prelude.{◌≡◌, ⊤, ℕ, zero, suc, false, List, [], ◌∷◌, ◌++◌, map, drop, slice_index_or}
+use Rattle.std.specs.Prelude.{ℕ, zero, suc, List, [], ◌∷◌, ◌++◌, map, drop, slice_index_or}
 use Rattle.std.specs.Prelude.{if◌then◌else◌}
-use Rattle.std.specs.List.{AllByRecursion}
 use Rattle.mp_pattern.specs.NetTokens.{NetToken, same_token}
 use Rattle.mp_many.specs.Prefixes.{heads}
 use Rattle.mp_many.specs.Laid.{Numbered, bare, left_after}
@@ -10,15 +9,10 @@ use Rattle.mp_many.specs.Laid.{Numbered, bare, left_after}
 abbrev pub Group : Type 0
 Group = NetToken × List ℕ
 
--- the groups, with a number added to the group of its token, which is a new one where there is none
-abbrev pub entered : List Group → NetToken → ℕ → List Group
-entered [] k n = (k, n ∷ []) ∷ []
-entered (g ∷ gs) k n = if same_token g.0 k then (g.0, g.1 ++ n ∷ []) ∷ gs else g ∷ entered gs k n
-
--- no two groups have one token
-abbrev pub AreApart : List Group → Type 0
-AreApart [] = ⊤
-AreApart (g ∷ gs) = AllByRecursion (λ h. same_token g.0 h.0 ≡ false) gs × AreApart gs
+-- the groups, with numbers added to the group of their token, which is a new one where there is none
+abbrev pub entered : List Group → NetToken → List ℕ → List Group
+entered [] k ns = (k, ns) ∷ []
+entered (g ∷ gs) k ns = if same_token g.0 k then (g.0, g.1 ++ ns) ∷ gs else g ∷ entered gs k ns
 
 -- the groups of lists, in order of the first list of each
 abbrev pub grouped : List Numbered → List Group

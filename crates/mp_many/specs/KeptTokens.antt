@@ -1,12 +1,11 @@
 -- What tokens are read as that are kept in little room.
-use Rattle.std.specs.Prelude.{◌≤◌, ◌<◌, ⊤, ℕ, ◌-◌, ◌^◌, List, length, map, take, drop, slice_index_or}
+use Rattle.std.specs.Prelude.{◌<◌, ⊤, ℕ, List, length, map, slice_index_or}
 use Rattle.std.specs.List.{AllByRecursion}
 use Rattle.mp_pattern.specs.NetTokens.{NetToken, enter_token, leave_token}
 use Rattle.mp_many.specs.declared.token.Token.{Token}
 use Rattle.mp_many.specs.declared.tokens.Kept.{Kept}
 use Rattle.mp_many.specs.declared.tokens.Kept.TheVariants.{Enter, Leave, Held}
 use Rattle.mp_many.specs.declared.tokens.Tokens.TheInside as tokens
-use Rattle.mp_many.specs.declared.tokens.TokenList.TheInside as list
 use Rattle.mp_many.specs.TokenView.{read_token}
 
 -- a token that is kept, where these are held
@@ -32,11 +31,3 @@ tokens_view t = kept_tokens t.held.items t.kept.items
 -- each of them is held
 abbrev pub AreKept : tokens.Inside → Type 0
 AreKept t = AllByRecursion (IsHeld (length t.held.items)) t.kept.items
-
--- those of a list from its start to its end
-abbrev pub list_view : list.Inside → List NetToken
-list_view l = take (l.end - l.start) (drop l.start l.all.now)
-
--- they are there, and their places can be held
-abbrev pub IsWithin : list.Inside → Type 0
-IsWithin l = (l.start ≤ l.end) × ((l.end ≤ length l.all.now) × (l.end < 2 ^ 64))

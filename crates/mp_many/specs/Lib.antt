@@ -3,6 +3,7 @@ pub mod Laid
 pub mod Digest
 pub mod TokenView
 pub mod KeptTokens
+pub mod Spans
 pub mod Groups
 pub mod Marks
 pub mod GroupView

@@ -1,5 +1,4 @@
 -- What the tokens are read as that stand in the patterns of rules.
-use Rattle.std.specs.Prelude.{ℕ, List, [], ◌∷◌, take, drop}
 use Rattle.mp_pattern.specs.NetTokens as plain
 use Rattle.mp_pattern.specs.NetTokens.{renamed}
 use Rattle.mp_pattern.specs.View.{pattern_tree, wildcard}
@@ -14,8 +13,3 @@ read_token (Enter f) = plain.enter_token f.0
 read_token (Leave f) = plain.leave_token f.0
 read_token (Wild w x) = plain.wild_token (wildcard w.now) x
 read_token (Comm p xs) = plain.comm_token (renamed xs.now (pattern_tree p.now))
-
--- a list in lists of so many each
-abbrev pub cut : {X : Type 0} → List ℕ → List X → List (List X)
-cut [] ks = []
-cut (n ∷ ns) ks = take n ks ∷ cut ns (drop n ks)

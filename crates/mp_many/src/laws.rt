@@ -1,4 +1,5 @@
-// The main theorems, each as the contract of a function that does nothing.
+//! The main theorems, each as the contract of a function that does nothing.
+
 ghost use Rattle.std.specs.Prelude.{◌≡◌, ◌≤◌, ℕ, true, List, Some, IsSome, length, slice_get, flat_map};
 ghost use Rattle.std.specs.List.{AllByRecursion};
 ghost use Rattle.mp_term.specs.Listing.{In};

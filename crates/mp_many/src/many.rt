@@ -40,13 +40,16 @@ impl<'a> Model for Many<'a> {
     ghost invariant = { IsMany };
 }
 
-/// A state of the tree, which stands for a prefix: the prefix's last token, the numbers of its first child and of its
-/// next sibling, where it has them, and the numbers of the rules whose token list it is, ascending.
+/// A state of the tree, which stands for a prefix.
 #[derive(Clone, Copy)]
 pub struct State<'a> {
+    /// The prefix's last token.
     pub token: &'a NetToken,
+    /// The number of its first child, where it has one.
     pub down: Option<u32>,
+    /// The number of its next sibling, where it has one.
     pub over: Option<u32>,
+    /// The numbers of the rules whose token list it is, ascending.
     pub accepts: &'a [u32],
 }
 

@@ -1,5 +1,5 @@
 //! The tree of token lists, state by state.
-ghost use Rattle.std.specs.Prelude.{◌≡◌, ◌<◌, ◌+◌, ◌^◌, [], ◌∷◌, ◌++◌, suc, length, map, take, drop, IfOk, OnOk};
+ghost use Rattle.std.specs.Prelude.{◌≡◌, ◌<◌, ◌+◌, ◌^◌, [], ◌∷◌, ◌++◌, suc, length, take, drop, IfOk, OnOk};
 ghost use Rattle.std.specs.Prelude.{None, Some, if◌then◌else◌};
 ghost use Rattle.std.specs.List.{AllByRecursion};
 ghost use Rattle.mp_many.specs.Groups.{left_at};
@@ -8,8 +8,8 @@ ghost use Rattle.mp_many.specs.Laid.{laid, unlinked, linked};
 ghost use Rattle.mp_many.specs.TokenView.{read_token};
 
 use crate::group::{Group, ended, groups_of};
+use crate::lists::TokenLists;
 use crate::token::to_net_token;
-use crate::tokens::TokenList;
 use mp_term::Memory;
 use mp_walk::{Instr, Instrs, Numbers};
 use std::alloc::Global;
@@ -27,8 +27,8 @@ fn next_number(states: &Instrs) -> Result<u32, Memory>
 // Adds the state of a group, which leads nowhere yet; `place` is the place behind the group's token.
 fn push_state(
     alloc: Global,
-    lists: &[TokenList<'_, '_>],
-    group: &Group<'_>,
+    lists: &TokenLists<'_>,
+    group: &Group<'_, '_>,
     place: usize,
     states: &mut Instrs,
 ) -> Result<(), Memory>
@@ -91,20 +91,21 @@ fn accepted(alloc: Global, number: u32, is_last: bool) -> Result<Numbers, Memory
 // Adds the states of the one list of the number, of which the tokens from the place on are taken, and so many at most.
 fn push_chain(
     alloc: Global,
-    list: &TokenList<'_, '_>,
+    lists: &TokenLists<'_>,
     number: u32,
     place: usize,
     most: usize,
     states: &mut Instrs,
 ) -> Result<(), Memory>
-    requires { place + most < 2 ^ 64 }
+    requires number { number < length lists.now }
+    requires fits { place + most < 2 ^ 64 }
     ensures { OnOk result (states.new ≡ states.old
-        ++ laid most ((number, drop place list.now) ∷ []) (suc (length states.old))) }
+        ++ laid most (left_at lists.now place (number ∷ [])) (suc (length states.old))) }
 {
-    let count = list.len();
+    let count = lists.length(number);
     let end = count.min(place + most);
     for index in place..end {
-        let token = to_net_token(alloc, &list.at(index))?;
+        let token = to_net_token(alloc, &lists.at(number, index))?;
         let down = number_behind(states, index + 1 < end)?;
         let accepts = accepted(alloc, number, index + 1 == count)?;
         states.push(Instr {
@@ -120,7 +121,7 @@ fn push_chain(
 // Adds the states of the lists of the numbers, of which the tokens from the place on are taken, and so many at most.
 pub(crate) fn push_states(
     alloc: Global,
-    lists: &[TokenList<'_, '_>],
+    lists: &TokenLists<'_>,
     numbers: &[u32],
     place: usize,
     most: usize,
@@ -135,14 +136,7 @@ pub(crate) fn push_states(
         return Ok(());
     }
     if let [number] = numbers {
-        return push_chain(
-            alloc,
-            &lists[*number as usize],
-            *number,
-            place,
-            most,
-            states,
-        );
+        return push_chain(alloc, lists, *number, place, most, states);
     }
     let groups = groups_of(alloc, lists, numbers, place)?;
     for (index, group) in groups.iter().enumerate() {

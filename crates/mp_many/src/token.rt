@@ -33,8 +33,8 @@ pub(crate) fn to_net_token(alloc: Global, token: &Token<'_>) -> Result<NetToken,
     }
 }
 
-// The tokens are equal, as is told at once of all but applications of commutative operations and wildcards other than
-// dots and those of kinds.
+// The tokens are equal, as is told at once of all but applications of commutative operations and wildcards with a count
+// or a default.
 pub(crate) fn is_plainly_same(token: &Token<'_>, other: &Token<'_>) -> bool
     ensures { IsTrue result → same_token (read_token token.now) (read_token other.now) ≡ true }
 {
@@ -43,6 +43,8 @@ pub(crate) fn is_plainly_same(token: &Token<'_>, other: &Token<'_>) -> bool
         (Token::Enter(f), Token::Enter(g)) => *f == *g,
         (Token::Leave(f), Token::Leave(g)) => *f == *g,
         (Token::Wild(Shape::Dot, m), Token::Wild(Shape::Dot, n)) => *m == *n,
+        (Token::Wild(Shape::Plus, m), Token::Wild(Shape::Plus, n)) => *m == *n,
+        (Token::Wild(Shape::Star, m), Token::Wild(Shape::Star, n)) => *m == *n,
         (Token::Wild(Shape::Kind(k), m), Token::Wild(Shape::Kind(l), n)) => *k == *l && *m == *n,
         _ => false,
     }

@@ -1,6 +1,6 @@
 //! Lists of tokens in little room.
-ghost use Rattle.std.specs.Prelude.{◌≡◌, ◌<◌, ◌≤◌, ◌-◌, [], ◌∷◌, ◌++◌, List, length, map, take, drop, slice_get};
-ghost use Rattle.std.specs.Prelude.{Some, IfOk, IfSome, OnOk, option_map};
+ghost use Rattle.std.specs.Prelude.{◌≡◌, ◌<◌, [], ◌∷◌, ◌++◌, List, length, map, slice_get};
+ghost use Rattle.std.specs.Prelude.{Some, IfOk, IfSome, IsTrue, OnOk};
 ghost use Rattle.mp_pattern.specs.NetTokens.{NetToken};
 ghost use Rattle.mp_many.specs.KeptTokens.{read_kept, IsHeld};
 ghost use Rattle.mp_many.specs.TokenView.{read_token};
@@ -85,18 +85,13 @@ fn place_of(held: &[Token<'_>], recent: &[u32], token: &Token<'_>) -> Option<u32
     }
 }
 
-// The token as it is kept, which is held where it has to be.
-fn keep<'a>(held: &mut Vec<Token<'a>>, recent: &mut [u32], token: Token<'a>) -> Result<Kept, Memory>
+// The token as it is kept by its place among those that are held, to which it is added where none is told at once.
+fn hold<'a>(held: &mut Vec<Token<'a>>, recent: &mut [u32], token: Token<'a>) -> Result<Kept, Memory>
     ensures more { (more : List NetToken)
         × map read_token held.new.items ≡ map read_token held.old.items ++ more }
     ensures held { IfOk result (IsHeld (length held.new.items)) }
     ensures read { IfOk result (λ k. read_kept (map read_token held.new.items) k ≡ read_token token.entry) }
 {
-    match token {
-        Token::Enter(op) => return Ok(Kept::Enter(op)),
-        Token::Leave(op) => return Ok(Kept::Leave(op)),
-        _ => {}
-    }
     if let Some(place) = place_of(held, recent, &token) {
         return Ok(Kept::Held(place));
     }
@@ -109,6 +104,34 @@ fn keep<'a>(held: &mut Vec<Token<'a>>, recent: &mut [u32], token: Token<'a>) -> 
         *last = place as u32;
     }
     Ok(Kept::Held(place as u32))
+}
+
+// The token as it is kept, which is held where it has to be.
+#[inline(always)]
+fn keep<'a>(held: &mut Vec<Token<'a>>, recent: &mut [u32], token: Token<'a>) -> Result<Kept, Memory>
+    ensures more { (more : List NetToken)
+        × map read_token held.new.items ≡ map read_token held.old.items ++ more }
+    ensures held { IfOk result (IsHeld (length held.new.items)) }
+    ensures read { IfOk result (λ k. read_kept (map read_token held.new.items) k ≡ read_token token.entry) }
+{
+    match token {
+        Token::Enter(op) => Ok(Kept::Enter(op)),
+        Token::Leave(op) => Ok(Kept::Leave(op)),
+        _ => hold(held, recent, token),
+    }
+}
+
+// What is kept is the same.
+#[inline(always)]
+fn is_one(kept: Kept, other: Kept) -> bool
+    ensures { IsTrue result → kept ≡ other }
+{
+    match (kept, other) {
+        (Kept::Enter(f), Kept::Enter(g)) => f == g,
+        (Kept::Leave(f), Kept::Leave(g)) => f == g,
+        (Kept::Held(m), Kept::Held(n)) => m == n,
+        _ => false,
+    }
 }
 
 impl<'a> Tokens<'a> {
@@ -124,6 +147,7 @@ impl<'a> Tokens<'a> {
     }
 
     // Adds a token at the end.
+    #[inline(always)]
     pub(crate) fn push(&mut self, token: Token<'a>) -> Result<(), Memory>
         ensures { OnOk result (self.new ≡ self.old ++ read_token token.entry ∷ []) }
     {
@@ -139,6 +163,16 @@ impl<'a> Tokens<'a> {
         self.kept.len()
     }
 
+    // The tokens at the places are one, as is told at once.
+    #[inline(always)]
+    pub(crate) fn are_same(&self, place: usize, other: usize) -> bool
+        requires place { place < length self.now }
+        requires other { other < length self.now }
+        ensures { IsTrue result → slice_get self.now place ≡ slice_get self.now other }
+    {
+        is_one(self.kept[place], self.kept[other])
+    }
+
     // The token at the place, from 0.
     pub(crate) fn at(&self, place: usize) -> Token<'a>
         requires { place < length self.now }
@@ -148,67 +182,6 @@ impl<'a> Tokens<'a> {
             Kept::Enter(op) => Token::Enter(op),
             Kept::Leave(op) => Token::Leave(op),
             Kept::Held(held) => self.held[held as usize],
-        }
-    }
-}
-
-// The tokens of a rule, which stand in a list of those of all rules. Contracts see the list of the plain ones.
-#[derive(Drop)]
-pub(crate) struct TokenList<'l, 'a> {
-    all: &'l Tokens<'a>,
-    start: usize,
-    end: usize,
-}
-
-impl<'l, 'a> Model for TokenList<'l, 'a> {
-    ghost use Rattle.std.specs.Prelude.{List};
-    ghost use Rattle.std.specs.Coded.{coded_list};
-    ghost use Rattle.mp_pattern.specs.NetTokens as plain;
-    ghost use Rattle.mp_pattern.specs.NetTokenCode.{coded_net_token};
-
-    ghost Value = { List plain.NetToken };
-
-    ghost coded = { coded_list coded_net_token };
-
-    ghost use Rattle.mp_many.specs.KeptTokens.{list_view, IsWithin};
-
-    ghost view = { list_view };
-
-    ghost invariant = { IsWithin };
-}
-
-impl<'l, 'a> TokenList<'l, 'a> {
-    // The list of the tokens from the start to the end.
-    pub(crate) fn new(all: &'l Tokens<'a>, start: usize, end: usize) -> Self
-        requires { (start ≤ end) × (end ≤ length all.now) }
-        ensures { result ≡ take (end - start) (drop start all.now) }
-    {
-        TokenList { all, start, end }
-    }
-
-    // How many tokens there are.
-    pub(crate) fn len(&self) -> usize
-        ensures { result ≡ length self.now }
-    {
-        self.end - self.start
-    }
-
-    // The token at the place, from 0.
-    pub(crate) fn at(&self, place: usize) -> Token<'a>
-        requires { place < length self.now }
-        ensures { slice_get self.now place ≡ Some (read_token result) }
-    {
-        self.all.at(self.start + place)
-    }
-
-    // The token at the place, from 0. It is None exactly where the place isn't below the length.
-    pub(crate) fn get(&self, place: usize) -> Option<Token<'a>>
-        ensures { slice_get self.now place ≡ option_map read_token result }
-    {
-        if place < self.len() {
-            Some(self.at(place))
-        } else {
-            None
         }
     }
 }

@@ -6,10 +6,9 @@ ghost use Rattle.mp_many.specs.Groups.{count_from};
 ghost use Rattle.mp_many.specs.Laid.{laid, numbered_from, tree_of};
 ghost use Rattle.mp_many.specs.Prefixes.{token_count};
 
-use crate::lists::{cut, rule_tokens};
+use crate::lists::{TokenLists, rule_tokens};
 use crate::names::RuleNames;
 use crate::states::push_states;
-use crate::tokens::TokenList;
 use mp_pattern::Rule;
 use mp_term::{Memory, Signature};
 use mp_walk::Instrs;
@@ -27,13 +26,13 @@ fn first_numbers(alloc: Global, count: usize) -> Result<Vec<u32>, Memory>
     Ok(numbers)
 }
 
-// The states of all lists, which have so many tokens together.
-fn states_of(alloc: Global, lists: &[TokenList<'_, '_>], most: usize) -> Result<Instrs, Memory>
-    requires few { length lists.now < 2 ^ 32 }
-    requires most { most ≡ token_count lists.now }
+// The states of all lists.
+fn states_of(alloc: Global, lists: &TokenLists<'_>) -> Result<Instrs, Memory>
+    requires { length lists.now < 2 ^ 32 }
     ensures { IfOk result (λ is. is ≡ laid (token_count lists.now) (numbered_from 0 lists.now) 1) }
 {
     let numbers = first_numbers(alloc, lists.len())?;
+    let most = lists.count();
     // Rules share their beginnings: there is room for half of the tokens at first.
     let mut states = Instrs::with_room(alloc, most / 2)?;
     push_states(alloc, lists, &numbers, 0, most, &mut states)?;
@@ -51,8 +50,6 @@ pub(crate) fn tree_of<'a>(
     requires names { names.now ≡ map (λ r. variables r.pattern) (map rule_tree rules.now) }
     ensures { IfOk result (λ is. is ≡ tree_of sig.now (map rule_tree rules.now)) }
 {
-    let all = rule_tokens(alloc, sig, rules, names)?;
-    let most = all.tokens.len();
-    let lists = cut(alloc, &all.tokens, most, &all.counts)?;
-    states_of(alloc, &lists, most)
+    let lists = rule_tokens(alloc, sig, rules, names)?;
+    states_of(alloc, &lists)
 }

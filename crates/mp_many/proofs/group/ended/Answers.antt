@@ -1,10 +1,10 @@
-use Rattle.std.proofs.Common.{◌∙◌, ◌+◌, ◌++◌, [], ◌∷◌, drop, get_or, sym, ap, refl, arith, append_assoc}
-use Rattle.std.specs.Prelude.{flat_map, slice_get}
+use Rattle.std.proofs.Common.{◌∙◌, ◌+◌, ◌++◌, [], ◌∷◌, drop, get_or, sym, ap, arith, append_assoc}
+use Rattle.std.specs.Prelude.{flat_map}
 use Rattle.mp_many.specs.Groups.{left_at}
 use Rattle.mp_many.specs.Laid.{ended}
 use Rattle.mp_many.proofs.RowLaws.{ended-step, within-step, ended-past, ended-within}
 use Rattle.mp_many.proofs.group.ended.Goals as goal
-use Rattle.mp_many.proofs.group.ended.Goals.{then-len-place+in_ok-push, else-len-place}
+use Rattle.mp_many.proofs.group.ended.Goals.{then-length-place+in_ok-push, else-length-place}
 
 pub loop-number-preserved : goal.loop-number-preserved
 loop-number-preserved c =
@@ -14,24 +14,23 @@ loop-number-preserved c =
     let old = c.loop-number.invariant in
     let rest = flat_map ended (left_at lists c.args.place (drop (i + 1) ns)) in
     let step = within-step lists ns i c.loop-number-test.true old.within in
-    let list = c.index-lists-number.result in
-    let e = ended-step lists c.args.place ns i list (slice_get list c.args.place) c.loop-number-test.true old.within
-    c.index-lists-number.is refl in
-    let now = c.loop-number.ended in
     let number = get_or ns i 0 in
+    let list = get_or lists number [] in
+    let e = ended-step lists c.args.place ns i c.loop-number-test.true in
+    let now = c.loop-number.ended in
     record {
       within = step.1;
       ended =
-          elim c.if-len-place.branch [
-            | then-len-place+in_ok-push w ↦
+          elim c.if-length-place.branch [
+            | then-length-place+in_ok-push w ↦
                 ap (λ xs. xs ++ rest) (w.ended-is ∙ w.in_ok-push.ensures.ok) ∙ append_assoc now (number ∷ []) rest
                 ∙ ap (λ xs. now ++ (xs ++ rest))
-                (sym (ended-past number c.args.place list (omega (arith, w.if-len-place.true, c.len.ensures))))
+                (sym (ended-past number c.args.place list (omega (arith, w.if-length-place.true, c.length.ensures))))
                 ∙ ap (λ xs. now ++ xs) (sym e) ∙ old.ended
-            | else-len-place w ↦
+            | else-length-place w ↦
                 ap (λ xs. xs ++ rest) w.ended-is
                 ∙ ap (λ xs. now ++ (xs ++ rest))
-                (sym (ended-within number c.args.place list (omega (arith, w.if-len-place.false, c.len.ensures))))
+                (sym (ended-within number c.args.place list (omega (arith, w.if-length-place.false, c.length.ensures))))
                 ∙ ap (λ xs. now ++ xs) (sym e) ∙ old.ended
           ];
     }

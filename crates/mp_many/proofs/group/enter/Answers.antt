@@ -17,7 +17,7 @@ pub returns-then-same-clause-entered : goal.returns-then-same-clause-entered
 returns-then-same-clause-entered c =
     let gs = c.loop-index.groups.items in
     let k = read_token c.args.token in
-    let n = c.args.number in
+    let n = c.args.numbers.now in
     on_ok_weaker c.add.result (λ e. enter-set gs k n c.loop-index.index c.index.result.now c.index_mut.result.now
     c.add.new.self (omega arith) c.index.ensures c.index_mut.ensures.value
     (sym c.in_ok-same.ensures ∙ c.if-same.true) e c.loop-index.invariant.entered
@@ -35,7 +35,7 @@ pub loop-index-preserved : goal.loop-index-preserved
 loop-index-preserved c = record {
   kept = c.loop-index.invariant.kept;
   entered =
-      enter-pass c.loop-index.groups.items (read_token c.args.token) c.args.number c.loop-index.index
+      enter-pass c.loop-index.groups.items (read_token c.args.token) c.args.numbers.now c.loop-index.index
       c.index.result.now (omega arith) c.index.ensures (sym c.in_ok-same.ensures ∙ c.if-same.false)
       c.loop-index.invariant.entered;
 }

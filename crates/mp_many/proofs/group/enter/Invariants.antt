@@ -9,6 +9,6 @@ invariant-loop-index l =
     let gs = map group_of l.groups.items in
     record {
       kept : l.groups.items ≡ l.fn.groups.items;
-      entered : entered gs (read_token l.token) l.number
-          ≡ take l.index gs ++ entered (drop l.index gs) (read_token l.token) l.number;
+      entered : entered gs (read_token l.token) l.numbers
+          ≡ take l.index gs ++ entered (drop l.index gs) (read_token l.token) l.numbers;
     }

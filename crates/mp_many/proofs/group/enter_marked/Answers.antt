@@ -1,4 +1,4 @@
-use Rattle.std.proofs.Common.{◌≡◌, ◌∙◌, [], ◌∷◌, map, sym, ap, subst, true, false}
+use Rattle.std.proofs.Common.{◌≡◌, ◌∙◌, map, sym, ap, subst, true, false}
 use Rattle.std.proofs.lemmas.Result.{on_ok_weaker}
 use Rattle.mp_many.specs.Digest.{token_digest}
 use Rattle.mp_many.specs.GroupView.{group_of}
@@ -17,7 +17,7 @@ returns-then-has_mark-clause-marked c =
     ∙ ap (λ xs. has_mark xs c.token_digest-digest.result) (sym c.deref.ensures.value)
     ∙ sym c.has_mark.ensures ∙ c.if-has_mark.true in
     on_ok_weaker c.enter.result
-    (λ e. subst (AreMarked ms) (sym e) (entered-marked ms gs k c.args.number c.requires.marked there))
+    (λ e. subst (AreMarked ms) (sym e) (entered-marked ms gs k c.args.numbers.now c.requires.marked there))
     c.enter.ensures.entered
 
 pub returns-clause-entered : goal.returns-clause-entered
@@ -29,7 +29,7 @@ returns-clause-entered c =
     ap (has_mark ms) (sym c.token_digest-digest.ensures)
     ∙ ap (λ xs. has_mark xs c.token_digest-digest.result) (sym c.deref.ensures.value)
     ∙ sym c.has_mark.ensures ∙ c.if-has_mark.false in
-    on_ok_weaker c.push_group.result (λ e. e ∙ sym (entered-new ms gs k c.args.number c.requires.marked gone))
+    on_ok_weaker c.push_group.result (λ e. e ∙ sym (entered-new ms gs k c.args.numbers.now c.requires.marked gone))
     c.push_group.ensures.groups
 
 pub returns-clause-marked : goal.returns-clause-marked
@@ -39,7 +39,7 @@ returns-clause-marked c =
     let gs = map group_of c.args.groups.now.items in
     let k = read_token c.args.token in
     on_ok_weaker c.push_group.result
-    (λ e. subst (AreMarked new) (sym e) (marked-push new gs (k, c.args.number ∷ [])
+    (λ e. subst (AreMarked new) (sym e) (marked-push new gs (k, c.args.numbers.now)
     (marked-more ms new gs c.set_mark.ensures.others c.requires.marked)
     (ap (has_mark new) (sym c.token_digest-digest.ensures) ∙ c.set_mark.ensures.own)))
     c.push_group.ensures.groups

@@ -7,12 +7,12 @@ use Rattle.mp_many.specs.TokenView.{read_token}
 use Rattle.mp_many.proofs.ChainLaws.{chain, chain-past, chain-step}
 use Rattle.mp_many.proofs.states.push_chain.Goals as goal
 
-pub at-requires : goal.at-requires
-at-requires c = omega (arith, c.loop-index-test.true, c.min-end.ensures, c.len-count.ensures)
+pub at-requires-clause-place : goal.at-requires-clause-place
+at-requires-clause-place c = omega (arith, c.loop-index-test.true, c.min-end.ensures, c.length-count.ensures)
 
 pub loop-index-preserved : goal.loop-index-preserved
 loop-index-preserved c =
-    let ks = c.args.list.now in
+    let ks = get_or c.args.lists.now c.args.number [] in
     let n = c.args.number in
     let i = c.loop-index.index in
     let end = c.min-end.result in
@@ -25,7 +25,7 @@ loop-index-preserved c =
       over = None;
       accepts = c.in_ok-accepts.accepts;
     } in
-    let whole = c.len-count.ensures in
+    let whole = c.length-count.ensures in
     let inside : i < length ks = omega (arith, c.loop-index-test.true, c.min-end.ensures, whole) in
     let is : read_token t ≡ get_or ks i (read_token t) =
     sym (get_or_from_slice_get ks i (read_token t) (read_token t) c.at.ensures) in
@@ -51,11 +51,11 @@ loop-index-preserved c =
 
 pub returns : goal.returns
 returns c =
-    let ks = c.args.list.now in
+    let ks = get_or c.args.lists.now c.args.number [] in
     let i = c.loop-index.index in
     let left = (c.args.place + c.args.most) - i in
     let now = c.loop-index.states in
     let past : min (length ks) (i + left) ≤ i =
-    omega (arith, c.loop-index-test.false, c.min-end.ensures, c.len-count.ensures) in
+    omega (arith, c.loop-index-test.false, c.min-end.ensures, c.length-count.ensures) in
     sym (append-nil now)
     ∙ ap (λ is. now ++ is) (sym (chain-past ks c.args.number left i (suc (length now)) past)) ∙ c.loop-index.invariant

@@ -5,7 +5,7 @@ use Rattle.std.proofs.lemmas.Option.{get_or_from_slice_get, slice_get_within}
 use Rattle.mp_pattern.specs.NetTokens.{leave_token}
 use Rattle.mp_many.specs.TokenView.{read_token}
 use Rattle.mp_many.proofs.KeptLaws.{read-last}
-use Rattle.mp_many.proofs.tokens.keep.Goals as goal
+use Rattle.mp_many.proofs.tokens.hold.Goals as goal
 
 pub returns-in-Some : goal.returns-in-Some
 returns-in-Some c =
