@@ -10,11 +10,12 @@ ghost use Rattle.mp_print.specs.PrintedCond.{cond_text};
 ghost use Rattle.mp_line.specs.Finds.{Finds};
 ghost use Rattle.mp_line.specs.LineTexts.{IsExactTerm, IsExactPattern, IsExactCond};
 
+use mp_build::if_faultless;
 use mp_pattern::{Cond, Pattern};
 use mp_print::{write_pattern, write_term};
 use mp_program::{TextSink, printed_cond};
 use mp_term::{Memory, Signature, Term};
-use mp_text::{TextError, read_loose_cond, read_pattern, read_term};
+use mp_text::{read_loose_cond, read_pattern, read_term};
 use std::alloc::Global;
 
 // The text is the printed text of the term.
@@ -41,14 +42,11 @@ pub(crate) fn exact_term(
     requires { length text.now < 2 ^ 32 - 1 }
     ensures { IfOk result (λ o. Finds tree (IsExactTerm sig.now text.now) o) }
 {
-    match read_term(alloc, sig, text) {
-        Ok(term) => {
-            let is_same = is_term_text(alloc, sig, &term, text)?;
-            if is_same { Ok(Some(term)) } else { Ok(None) }
-        }
-        Err(TextError::Text(_)) => Ok(None),
-        Err(TextError::Memory) => Err(Memory),
-    }
+    let Some(term) = if_faultless(read_term(alloc, sig, text))? else {
+        return Ok(None);
+    };
+    let is_same = is_term_text(alloc, sig, &term, text)?;
+    if is_same { Ok(Some(term)) } else { Ok(None) }
 }
 
 // The text is the printed text of the pattern.
@@ -77,14 +75,11 @@ pub(crate) fn exact_pattern(
     requires { length text.now < 2 ^ 32 - 1 }
     ensures { IfOk result (λ o. Finds pattern_tree (IsExactPattern sig.now text.now) o) }
 {
-    match read_pattern(alloc, sig, text) {
-        Ok(pattern) => {
-            let is_same = is_pattern_text(alloc, sig, &pattern, text)?;
-            if is_same { Ok(Some(pattern)) } else { Ok(None) }
-        }
-        Err(TextError::Text(_)) => Ok(None),
-        Err(TextError::Memory) => Err(Memory),
-    }
+    let Some(pattern) = if_faultless(read_pattern(alloc, sig, text))? else {
+        return Ok(None);
+    };
+    let is_same = is_pattern_text(alloc, sig, &pattern, text)?;
+    if is_same { Ok(Some(pattern)) } else { Ok(None) }
 }
 
 // The text is the printed text of the condition.
@@ -105,12 +100,9 @@ pub(crate) fn exact_cond(
     requires { length text.now < 2 ^ 32 - 1 }
     ensures { IfOk result (λ o. Finds cond_tree (IsExactCond sig.now text.now) o) }
 {
-    match read_loose_cond(alloc, sig, text) {
-        Ok(cond) => {
-            let is_same = is_cond_text(alloc, sig, &cond, text)?;
-            if is_same { Ok(Some(cond)) } else { Ok(None) }
-        }
-        Err(TextError::Text(_)) => Ok(None),
-        Err(TextError::Memory) => Err(Memory),
-    }
+    let Some(cond) = if_faultless(read_loose_cond(alloc, sig, text))? else {
+        return Ok(None);
+    };
+    let is_same = is_cond_text(alloc, sig, &cond, text)?;
+    if is_same { Ok(Some(cond)) } else { Ok(None) }
 }
