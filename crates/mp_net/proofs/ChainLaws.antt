@@ -14,6 +14,7 @@ use Rattle.mp_net.specs.Net.{nowhere, Leads, IsNet}
 use Rattle.mp_net.specs.NetOf.{asking_turn, ended, accepted, IsState, IsNetOf}
 use Rattle.mp_net.specs.Chain.{single, chain_rules, asking_turns, chain_turns}
 use Rattle.mp_net.proofs.ItemLaws.{held-drop, drop-next}
+use Rattle.mp_net.specs.declared.limits.TheConstants.{MAX_STATES}
 
 -- a rule that asks for a head next
 edge-leads : (rules : List (List Open)) (q r : ℕ) (g : Mark) (m : List Mark)
@@ -116,7 +117,7 @@ few-ascending (k ∷ (j ∷ hs)) h = absurd (omega (arith, h))
 
 -- states that lead so and accept so are the net of the rule
 pub chain-net_of : (r : ℕ) (m : List Mark) (n : Net) → map turn_of n.states.items ≡ chain_turns 0 m
-    → map accepted n.states.items ≡ nones m ++ (r ∷ []) ∷ [] → length m < 4096
+    → map accepted n.states.items ≡ nones m ++ (r ∷ []) ∷ [] → length m < MAX_STATES
     → AllByRecursion IsState n.states.items → IsNetOf (single r m) n
 chain-net_of r m n turns takes few states =
     let count = sym (length-map n.states.items turn_of) ∙ ap length turns ∙ length-turns 0 m in

@@ -18,10 +18,11 @@ use Rattle.mp_net.specs.Entered.{unless_empty}
 use Rattle.mp_net.specs.declared.mark.Mark.{Mark}
 use Rattle.mp_net.specs.declared.item.Item.{Item}
 use Rattle.mp_net.proofs.TurnLaws.{ruled, first-some}
+use Rattle.mp_net.specs.declared.limits.TheConstants.{MAX_STATES}
 
--- the mark has fewer than 4,096 arguments
+-- the mark has fewer than `MAX_STATES` arguments
 abbrev pub IsNarrow : net.Mark → Type 0
-IsNarrow g = net.arity g < 4096
+IsNarrow g = net.arity g < MAX_STATES
 
 length-anythings : (k : ℕ) → length (net.anythings k) ≡ k
 length-anythings zero = refl
@@ -36,14 +37,14 @@ pub all_short-more : (n k : ℕ) → n ≤ k → (os : List net.Open) → AreSho
 all_short-more n k w os a =
     all-also (λ o. IsShort n o.rest) (λ o. IsShort k o.rest) (λ o h. (omega (arith, w, h.0), h.1)) os a
 
--- what goes on below a head asks for fewer places than 4,096 more
+-- what goes on below a head asks for fewer places than `MAX_STATES` more
 short-below : (n : ℕ) (h : net.Mark) (os : List net.Open) → IsNarrow h → AreShort n os
-    → AreShort (n + 4096) (net.going (net.below h) os)
+    → AreShort (n + MAX_STATES) (net.going (net.below h) os)
 short-below n h [] w a = tt
 short-below n h (o ∷ os) w a = by_rest (short-below n h os w a.1) o.rest a.0
   where
-    by_rest : AreShort (n + 4096) (net.going (net.below h) os) → (m : List net.Mark) → IsShort n m
-        → AreShort (n + 4096)
+    by_rest : AreShort (n + MAX_STATES) (net.going (net.below h) os) → (m : List net.Mark) → IsShort n m
+        → AreShort (n + MAX_STATES)
         (cons_option (option_map (ruled o.rule) (net.below h m)) (net.going (net.below h) os))
     by_rest i [] s = i
     by_rest i (net.anything ∷ m) s =
@@ -54,16 +55,16 @@ short-below n h (o ∷ os) w a = by_rest (short-below n h os w a.1) o.rest a.0
         ((omega (arith, c, l, w), all-append IsNarrow (net.anythings k) m (narrow-anythings k) s.1.1), i)
     by_rest i (net.named j ∷ m) s =
         let l = s.0 in
-        let shorter : length m < n + 4096 = omega (arith, l) in
+        let shorter : length m < n + MAX_STATES = omega (arith, l) in
         elim (net.same_mark (net.named j) h) as
-        (λ b. AreShort (n + 4096)
+        (λ b. AreShort (n + MAX_STATES)
         (cons_option (option_map (ruled o.rule) (if b then Some m else None)) (net.going (net.below h) os)))
         [ true ↦ ((shorter, s.1.1), i) | false ↦ i ]
     by_rest i (net.entered f j ∷ m) s =
         let l = s.0 in
-        let shorter : length m < n + 4096 = omega (arith, l) in
+        let shorter : length m < n + MAX_STATES = omega (arith, l) in
         elim (net.same_mark (net.entered f j) h) as
-        (λ b. AreShort (n + 4096)
+        (λ b. AreShort (n + MAX_STATES)
         (cons_option (option_map (ruled o.rule) (if b then Some m else None)) (net.going (net.below h) os)))
         [ true ↦ ((shorter, s.1.1), i) | false ↦ i ]
 
@@ -102,25 +103,25 @@ narrow-heads n os hs a h = all-also (λ g. In (mark_of g) (heads_of os)) (λ g. 
 -- the rules of the states that a state leads to
 pub short-led : (n : ℕ) (ms : List (List net.Mark)) (os : List net.Open) (hs : List Mark) (is : List Item)
     → AreShort n os → AreAsked os hs → opens ms is ≡ net.going net.behind os
-    → AllByRecursion (AreShort (n + 4096)) (below_each os (map mark_of hs) ++ map (opens ms) (unless_empty is))
+    → AllByRecursion (AreShort (n + MAX_STATES)) (below_each os (map mark_of hs) ++ map (opens ms) (unless_empty is))
 short-led n ms os hs is a h e =
-    all-append (AreShort (n + 4096)) (below_each os (map mark_of hs)) (map (opens ms) (unless_empty is))
+    all-append (AreShort (n + MAX_STATES)) (below_each os (map mark_of hs)) (map (opens ms) (unless_empty is))
     (each hs (narrow-heads n os hs a h)) (by_items is e)
   where
     each : (hs : List Mark) → AllByRecursion (λ h. IsNarrow (mark_of h)) hs
-        → AllByRecursion (AreShort (n + 4096)) (below_each os (map mark_of hs))
+        → AllByRecursion (AreShort (n + MAX_STATES)) (below_each os (map mark_of hs))
     each [] w = tt
     each (h ∷ hs) w = (short-below n (mark_of h) os w.0 a, each hs w.1)
 
-    more : (n : ℕ) → n ≤ n + 4096
+    more : (n : ℕ) → n ≤ n + MAX_STATES
     more n = omega arith
 
     by_items : (is : List Item) → opens ms is ≡ net.going net.behind os
-        → AllByRecursion (AreShort (n + 4096)) (map (opens ms) (unless_empty is))
+        → AllByRecursion (AreShort (n + MAX_STATES)) (map (opens ms) (unless_empty is))
     by_items [] k = tt
     by_items (i ∷ is) k = (
-      subst (AreShort (n + 4096)) (sym k)
-          (all_short-more n (n + 4096) (more n) (net.going net.behind os) (short-behind n os a)),
+      subst (AreShort (n + MAX_STATES)) (sym k)
+          (all_short-more n (n + MAX_STATES) (more n) (net.going net.behind os) (short-behind n os a)),
       tt,
     )
 
@@ -140,14 +141,14 @@ wildcard-fits ms h x o hs f s w =
     (λ g k. omega (arith, few, k)) hs w
 
 -- rules as they begin
-held-short : (ms : List (List net.Mark)) (i : ℕ) → AllByRecursion (IsShort 4096) ms
-    → IsShort 4096 (net.held_or [] (slice_get ms i))
+held-short : (ms : List (List net.Mark)) (i : ℕ) → AllByRecursion (IsShort MAX_STATES) ms
+    → IsShort MAX_STATES (net.held_or [] (slice_get ms i))
 held-short [] i a = (omega arith, tt)
 held-short (m ∷ ms) zero a = a.0
 held-short (m ∷ ms) (suc i) a = held-short ms i a.1
 
-pub starts-short : (ms : List (List net.Mark)) (i n : ℕ) → AllByRecursion (IsShort 4096) ms
-    → AreShort 4096 (opens ms (items_from i n))
+pub starts-short : (ms : List (List net.Mark)) (i n : ℕ) → AllByRecursion (IsShort MAX_STATES) ms
+    → AreShort MAX_STATES (opens ms (items_from i n))
 starts-short ms i zero a = tt
 starts-short ms i (suc n) a = (held-short ms i a, starts-short ms (suc i) n a)
 
@@ -164,14 +165,14 @@ mutual
 
 mutual
   -- few nodes have few arguments each
-  pub narrow-marks : (p : Pattern) → pattern_nodes p < 4096 → AllByRecursion IsNarrow (net.marks p)
+  pub narrow-marks : (p : Pattern) → pattern_nodes p < MAX_STATES → AllByRecursion IsNarrow (net.marks p)
   narrow-marks (symbol_pattern n) h = (omega arith, tt)
   narrow-marks (app_pattern f ps) h =
       let a = length-patterns ps in
       (omega (arith, h, a), narrow-all_marks ps (omega (arith, h)))
   narrow-marks (wild_pattern w x) h = (omega arith, tt)
 
-  narrow-all_marks : (ps : Patterns) → all_pattern_nodes ps < 4096 → AllByRecursion IsNarrow (net.all_marks ps)
+  narrow-all_marks : (ps : Patterns) → all_pattern_nodes ps < MAX_STATES → AllByRecursion IsNarrow (net.all_marks ps)
   narrow-all_marks no_patterns h = tt
   narrow-all_marks (more_patterns p ps) h =
       all-append IsNarrow (net.marks p) (net.all_marks ps) (narrow-marks p (omega (arith, h)))

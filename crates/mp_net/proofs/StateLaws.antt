@@ -24,6 +24,7 @@ use Rattle.mp_net.specs.declared.build.Net.{Net}
 use Rattle.mp_net.proofs.MarkLaws.{edge-place, none-asked}
 use Rattle.mp_net.proofs.TurnLaws.{states-listed}
 use Rattle.mp_net.proofs.ShortLaws.{all_short-more, short-led}
+use Rattle.mp_net.specs.declared.limits.TheConstants.{MAX_STATES}
 
 -- what stands in a list stands in it with more behind
 pub get-front : {X : Type 0} (xs ys : List X) (q : ℕ) (x : X) → slice_get xs q ≡ Some x
@@ -144,15 +145,15 @@ take-behind (z ∷ xs) ys (suc k) x e = ap (λ us. z ∷ us) (take-behind xs ys 
 -- what holds while a net is built: the finished states lead on, and accept the rules that ask nothing more
 pub record Built {Z : Type 0} (ms : List (List Mark)) (os : List Open) (rules : List (Vec Item Z)) (ss : List State)
     : Type 0 where
-  pub few : length rules ≤ 4096
+  pub few : length rules ≤ MAX_STATES
   pub behind : length ss ≤ length rules
   pub lead : AllLead (states ms rules) (map turn_of ss)
   pub start : slice_get (states ms rules) 0 ≡ Some os
   pub accepted : map accepted ss ≡ map (filter_map ended) (take (length ss) (states ms rules))
-  pub short : AllByRecursion (AreShort (4096 * suc (length ss))) (states ms rules)
+  pub short : AllByRecursion (AreShort (MAX_STATES * suc (length ss))) (states ms rules)
   pub states : AllByRecursion IsState ss
 
-pub built-none : {Z : Type 0} (ms : List (List Mark)) (v : Vec Item Z) → AreShort 4096 (opens ms v.items)
+pub built-none : {Z : Type 0} (ms : List (List Mark)) (v : Vec Item Z) → AreShort MAX_STATES (opens ms v.items)
     → Built ms (opens ms v.items) (v ∷ []) []
 built-none ms v short = record {
   few = omega arith;
@@ -168,7 +169,7 @@ built-none ms v short = record {
 pub built-more : {Z : Type 0} (ms : List (List Mark)) (start : List Open) (rules new : List (Vec Item Z))
     (ss : List State)
     (s : State) (t : Led) (os : List Open) → Built ms start rules ss → length ss < length rules
-    → slice_get (states ms rules) (length ss) ≡ Some os → IsTurn ms os t → length rules + length (led t) ≤ 4096
+    → slice_get (states ms rules) (length ss) ≡ Some os → IsTurn ms os t → length rules + length (led t) ≤ MAX_STATES
     → listed new ≡ listed rules ++ led t → s.heads.items ≡ t.heads.items → s.first ≡ length rules
     → s.other ≡ number_of (length rules + length t.below.items) t.behind.items → accepted s ≡ filter_map ended os
     → Built ms start new (ss ++ s ∷ [])
@@ -232,14 +233,14 @@ built-more ms start rules new ss s t os built within here turn room e heads firs
         tt,
       );
       short =
-          let n = 4096 * suc (length ss) in
-          let k = 4096 * suc (length (ss ++ s ∷ [])) in
+          let n = MAX_STATES * suc (length ss) in
+          let k = MAX_STATES * suc (length (ss ++ s ∷ [])) in
           let longer : n ≤ k = omega arith in
-          let next : n + 4096 ≤ k = omega arith in
+          let next : n + MAX_STATES ≤ k = omega arith in
           subst (AllByRecursion (AreShort k)) (sym g)
           (all-append (AreShort k) old more
           (all-also (AreShort n) (AreShort k) (all_short-more n k longer) old built.short)
-          (all-also (AreShort (n + 4096)) (AreShort k) (all_short-more (n + 4096) k next) more
+          (all-also (AreShort (n + MAX_STATES)) (AreShort k) (all_short-more (n + MAX_STATES) k next) more
           (short-led n ms os hs t.behind.items (all-get (AreShort n) old (length ss) os built.short here) turn.asked
           turn.behind)));
     }

@@ -7,6 +7,7 @@ use Rattle.mp_net.specs.Turned.{AreAscending}
 use Rattle.mp_net.specs.View.{turn_of}
 use Rattle.mp_net.specs.declared.state.State.{State}
 use Rattle.mp_net.specs.declared.build.Net.{Net}
+use Rattle.mp_net.specs.declared.limits.TheConstants.{MAX_STATES}
 
 -- the number of a rule that asks nothing more
 abbrev pub ended : net.Open → Option ℕ
@@ -16,18 +17,18 @@ ended o = elim o.rest [ [] ↦ Some o.rule | g ∷ m ↦ None ]
 abbrev pub accepted : State → List ℕ
 accepted s = s.accepted.items
 
--- the heads of a state ascend, and the states below them are among the first 4,096
+-- the heads of a state ascend, and the states below them are among the first `MAX_STATES`
 pub record IsState (s : State) : Type 0 where
   pub ascending : AreAscending s.heads.items
-  pub few : s.first + length s.heads.items ≤ 4096
+  pub few : s.first + length s.heads.items ≤ MAX_STATES
 
--- the net begins with these rules, accepts those that ask nothing more, and has at most 4,096 states
+-- the net begins with these rules, accepts those that ask nothing more, and has at most `MAX_STATES` states
 pub record IsNetOf (os : List net.Open) (n : Net) : Type 0 where
   pub rules : List (List net.Open)
   pub net : net.IsNet rules (map turn_of n.states.items)
   pub start : slice_get rules 0 ≡ Some os
   pub accepted : map accepted n.states.items ≡ map (filter_map ended) rules
-  pub few : length n.states.items ≤ 4096
+  pub few : length n.states.items ≤ MAX_STATES
   pub states : AllByRecursion IsState n.states.items
 
 -- where a state leads that has one rule, which asks that next

@@ -5,16 +5,15 @@ ghost use Rattle.mp_net.specs.Items.{tables, opens, listed};
 ghost use Rattle.mp_net.specs.Short.{AreShort};
 ghost use Rattle.mp_net.specs.NetOf.{ended, IsNetOf};
 ghost use Rattle.mp_net.specs.Entered.{led, number_of};
+ghost use Rattle.mp_net.specs.declared.limits.TheConstants.{MAX_STATES};
 
 use crate::item::{Item, first};
+use crate::limits::MAX_STATES;
 use crate::mark::Mark;
 use crate::state::State;
 use crate::turn::{Turn, turned};
 use mp_term::Memory;
 use std::alloc::Global;
-
-// The most states of a net.
-const MAX_STATES: usize = 4096;
 
 // A net: a deterministic automaton over the preorder of a subject. It begins in its first state.
 #[derive(Drop)]
@@ -52,7 +51,7 @@ fn enter<'a>(
     accepted: Vec<u32>,
     rules: &mut Vec<Vec<Item>>,
 ) -> Result<State<'a>, Memory>
-    requires { length rules.old.items + length (led turn) ≤ 4096 }
+    requires { length rules.old.items + length (led turn) ≤ MAX_STATES }
     ensures rules { IfOk result (λ s. listed rules.new.items ≡ listed rules.old.items ++ led turn.entry) }
     ensures heads { IfOk result (λ s. s.heads.items ≡ turn.entry.heads.items) }
     ensures first { IfOk result (λ s. s.first ≡ length rules.old.items) }
@@ -85,13 +84,13 @@ fn enter<'a>(
 }
 
 // The net of the rules, whose first state has them as they are. It is None only where it would have more than
-// 4,096 states.
+// `MAX_STATES` states.
 pub(crate) fn build_net<'a>(
     alloc: Global,
     marks: &[Vec<Mark<'a>>],
     start: Vec<Item>,
 ) -> Result<Option<Net<'a>>, Memory>
-    requires { AreShort 4096 (opens (tables marks.now) start.items) }
+    requires { AreShort MAX_STATES (opens (tables marks.now) start.items) }
     ensures { IfOk result (λ o. IfSome o (IsNetOf (opens (tables marks.now) start.items))) }
 {
     let mut rules = Vec::new(alloc);

@@ -3,6 +3,7 @@ ghost use Rattle.std.specs.Prelude.{◌≡◌, ◌<◌, [], ◌∷◌, length, m
 ghost use Rattle.mp_net.specs.Net.{nowhere};
 ghost use Rattle.mp_net.specs.View.{mark_of, turn_of};
 ghost use Rattle.mp_net.specs.NetOf.{IsNetOf, IsState, asking_turn, accepted};
+ghost use Rattle.mp_net.specs.declared.limits.TheConstants.{MAX_STATES};
 
 use crate::build::Net;
 use crate::mark::Mark;
@@ -12,7 +13,7 @@ use std::alloc::Global;
 
 // The state at a place of which that is asked, with the number of the state that follows.
 fn asking<'a>(alloc: Global, mark: Mark<'a>, next: u32) -> Result<State<'a>, Memory>
-    requires room { next < 4096 }
+    requires room { next < MAX_STATES }
     ensures turn { IfOk result (λ s. turn_of s ≡ asking_turn (mark_of mark.entry) next) }
     ensures accepted { IfOk result (λ s. accepted s ≡ []) }
     ensures state { IfOk result IsState }
@@ -50,7 +51,7 @@ fn accepting<'a>(alloc: Global, rule: u32) -> Result<State<'a>, Memory>
 
 // The net of one rule: a state for each of its marks, and one behind them.
 pub(crate) fn chain<'a>(alloc: Global, marks: &[Mark<'a>], rule: u32) -> Result<Net<'a>, Memory>
-    requires few { length marks.now < 4096 }
+    requires few { length marks.now < MAX_STATES }
     ensures { IfOk result (IsNetOf (record { rule = rule; rest = map mark_of marks.now } ∷ [])) }
 {
     let mut states = Vec::new(alloc);

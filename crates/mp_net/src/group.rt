@@ -4,6 +4,7 @@ ghost use Rattle.std.specs.List.{AllByRecursion};
 ghost use Rattle.mp_net.specs.Items.{tables, items_from};
 ghost use Rattle.mp_net.specs.Short.{IsShort};
 ghost use Rattle.mp_net.specs.NetOf.{IsGroup};
+ghost use Rattle.mp_net.specs.declared.limits.TheConstants.{MAX_STATES};
 
 use crate::build::{Net, build_net};
 use crate::chain::chain;
@@ -60,7 +61,7 @@ pub(crate) fn largest_group<'a>(
 ) -> Result<Group<'a>, Memory>
     requires within { first < length marks.now }
     requires many { length marks.now < 2 ^ 32 }
-    requires short { AllByRecursion (IsShort 4096) (tables marks.now) }
+    requires short { AllByRecursion (IsShort MAX_STATES) (tables marks.now) }
     ensures { IfOk result (λ g. IsGroup first (drop first (tables marks.now)) g.count g.net) }
 {
     let most = marks.len() - first;

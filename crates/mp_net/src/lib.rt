@@ -8,6 +8,7 @@ mod fault;
 mod group;
 mod item;
 mod laws;
+mod limits;
 mod mark;
 mod mark_order;
 mod nets;

@@ -3,6 +3,7 @@ ghost use Rattle.std.specs.Prelude.{◌≡◌, ◌≤◌, ◌+◌, true, length}
 ghost use Rattle.mp_net.specs.Net.{edge_of, same_mark};
 ghost use Rattle.mp_net.specs.View.{mark_of, turn_of};
 ghost use Rattle.mp_net.specs.Turned.{AreAscending};
+ghost use Rattle.mp_net.specs.declared.limits.TheConstants.{MAX_STATES};
 
 use crate::mark::Mark;
 
@@ -21,7 +22,7 @@ impl<'a> State<'a> {
     // The state below a place with the head.
     pub(crate) fn below(&self, head: &Mark<'_>) -> Option<u32>
         requires ascending { AreAscending self.now.heads.items }
-        requires few { self.now.first + length self.now.heads.items ≤ 4096 }
+        requires few { self.now.first + length self.now.heads.items ≤ MAX_STATES }
         requires head { same_mark (mark_of head.now) (mark_of head.now) ≡ true }
         ensures { result ≡ edge_of (mark_of head.now) (turn_of self.now).edges }
     {

@@ -6,6 +6,7 @@ ghost use Rattle.mp_net.specs.View.{mark_of, open_of};
 ghost use Rattle.mp_net.specs.Items.{tables, opens, states, listed, joined, item_below};
 ghost use Rattle.mp_net.specs.Short.{IsShort, AreShort};
 ghost use Rattle.mp_net.specs.Turned.{asked, below_each, AreAscending, HaveHeads, AreAsked, IsTurn};
+ghost use Rattle.mp_net.specs.declared.limits.TheConstants.{MAX_STATES};
 
 use crate::item::{Item, first, inside};
 use crate::mark::Mark;
@@ -82,7 +83,7 @@ fn go_on<'a>(marks: &[Vec<Mark<'a>>], turn: &mut Turn<'a>, item: Item) -> Result
     requires ascending { AreAscending turn.old.heads.items }
     requires heads { HaveHeads (open_of (tables marks.now) item ∷ []) turn.old.heads.items }
     requires lists { length turn.old.below.items ≡ length turn.old.heads.items }
-    requires narrow { AllByRecursion (λ h. arity (mark_of h) < 4096) turn.old.heads.items }
+    requires narrow { AllByRecursion (λ h. arity (mark_of h) < MAX_STATES) turn.old.heads.items }
     requires short { IsShort (2 ^ 32) (open_of (tables marks.now) item).rest }
     ensures heads { OnOk result (turn.new.heads.items ≡ turn.old.heads.items) }
     ensures below { OnOk result (states (tables marks.now) turn.new.below.items

@@ -10,6 +10,7 @@ use Rattle.mp_net.specs.Entered.{led}
 use Rattle.mp_net.specs.NetOf.{ended}
 use Rattle.mp_net.proofs.ShortLaws.{all_short-more}
 use Rattle.mp_net.proofs.StateLaws.{Built, built-none, built-more, built-all, rules-at}
+use Rattle.mp_net.specs.declared.limits.TheConstants.{MAX_STATES}
 use Rattle.mp_net.proofs.build.build_net.Goals as goal
 
 pub loop-alloc-init : goal.loop-alloc-init
@@ -34,11 +35,11 @@ turned-requires c =
     let here : slice_get (states ms rules) c.len-in-loop-alloc-2.result ≡ Some os =
     rules-at ms rules c.len-in-loop-alloc-2.result c.index-items.result.now (omega (arith, few, place))
     c.index-items.ensures in
-    let least : 4096 * suc n ≤ 2 ^ 32 = omega (arith, few, c.loop-alloc.invariant.few) in
+    let least : MAX_STATES * suc n ≤ 2 ^ 32 = omega (arith, few, c.loop-alloc.invariant.few) in
     subst (λ xs. AreShort (2 ^ 32) (opens ms xs)) (sym c.deref.ensures.value)
-    (all_short-more (4096 * suc n) (2 ^ 32) least os
-    (all-get (AreShort (4096 * suc n)) (states ms rules) c.len-in-loop-alloc-2.result os c.loop-alloc.invariant.short
-    here))
+    (all_short-more (MAX_STATES * suc n) (2 ^ 32) least os
+    (all-get (AreShort (MAX_STATES * suc n)) (states ms rules) c.len-in-loop-alloc-2.result os
+    c.loop-alloc.invariant.short here))
 
 pub loop-alloc-preserved : goal.loop-alloc-preserved
 loop-alloc-preserved c =
@@ -59,7 +60,7 @@ loop-alloc-preserved c =
     subst (λ xs. IsTurn ms (opens ms xs) turn) c.deref.ensures.value c.in_ok-turn.ensures in
     let taken : c.in_ok-accepted.accepted.items ≡ filter_map ended os =
     c.in_ok-accepted.ensures ∙ ap (λ xs. filter_map ended (opens ms xs)) c.deref-in-loop-alloc.ensures.value in
-    let room : length rules + length (led turn) ≤ 4096 = grind (arith, nat_tests) in
+    let room : length rules + length (led turn) ≤ MAX_STATES = grind (arith, nat_tests) in
     subst (Built ms start c.enter.new.rules.items) (sym c.in_ok-push-2.ensures.items)
     (built-more ms start rules c.enter.new.rules.items ss c.in_ok-enter.field-0 turn os c.loop-alloc.invariant few here
     led_to room c.in_ok-enter.ensures.rules c.in_ok-enter.ensures.heads c.in_ok-enter.ensures.first

@@ -8,6 +8,7 @@ use Rattle.mp_net.specs.Short.{IsShort, AreShort}
 use Rattle.mp_net.specs.NetOf.{IsNetOf}
 use Rattle.mp_net.proofs.ShortLaws.{starts-short}
 use Rattle.mp_net.proofs.GroupLaws.{tables-held, one-group, more-group, below-fails}
+use Rattle.mp_net.specs.declared.limits.TheConstants.{MAX_STATES}
 use Rattle.mp_net.proofs.group.largest_group.Goals as goal
 
 pub chain-requires : goal.chain-requires
@@ -16,13 +17,13 @@ chain-requires c =
     let first = c.args.first in
     let v = c.index-marks-first.result in
     let held = tables-held marks first v c.requires.within c.index-marks-first.is in
-    let few = (all-get (IsShort 4096) (tables marks) first (map mark_of v.items) c.requires.short held).0 in
+    let few = (all-get (IsShort MAX_STATES) (tables marks) first (map mark_of v.items) c.requires.short held).0 in
     record { few = omega (arith, few, length-map v.items mark_of, ap length c.deref.ensures.value) }
 
 pub build_net-requires : goal.build_net-requires
 build_net-requires c =
     let ms = tables c.args.marks.now in
-    subst (λ is. AreShort 4096 (opens ms is)) (sym c.in_ok-starts.ensures)
+    subst (λ is. AreShort MAX_STATES (opens ms is)) (sym c.in_ok-starts.ensures)
     (starts-short ms c.args.first c.next_count-count.result c.requires.short)
 
 pub loop-group-init : goal.loop-group-init

@@ -12,16 +12,17 @@ use Rattle.mp_net.specs.Items.{tables}
 use Rattle.mp_net.specs.View.{mark_of}
 use Rattle.mp_net.proofs.ShortLaws.{narrow-marks}
 use Rattle.mp_net.proofs.NetsLaws.{AreFront, front-more, front-all, length-marks}
+use Rattle.mp_net.specs.declared.limits.TheConstants.{MAX_STATES}
 use Rattle.mp_net.proofs.nets.nets_of.Goals as goal
 
 pub largest_group-requires-clause-short : goal.largest_group-requires-clause-short
 largest_group-requires-clause-short c =
     let all = map rule_tree c.args.rules.now in
-    let short = all-map (λ r. pattern_nodes r.pattern ≤ MAX_PATTERN_NODES) (IsShort 4096) (λ r. marks r.pattern)
+    let short = all-map (λ r. pattern_nodes r.pattern ≤ MAX_PATTERN_NODES) (IsShort MAX_STATES) (λ r. marks r.pattern)
     (λ r h. (omega (arith, h, length-marks r.pattern), narrow-marks r.pattern (omega (arith, h)))) all
     c.requires.short in
-    subst (λ ms. AllByRecursion (IsShort 4096) (tables ms)) (sym c.deref.ensures.value)
-    (subst (AllByRecursion (IsShort 4096)) (sym c.in_ok-marks.ensures) short)
+    subst (λ ms. AllByRecursion (IsShort MAX_STATES) (tables ms)) (sym c.deref.ensures.value)
+    (subst (AllByRecursion (IsShort MAX_STATES)) (sym c.in_ok-marks.ensures) short)
 
 pub loop-first-preserved : goal.loop-first-preserved
 loop-first-preserved c =
