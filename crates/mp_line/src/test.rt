@@ -71,7 +71,7 @@ fn add_amounts<'a>(
 }
 
 /// Adds the names of the variables of a condition at the end, in order, each as often as it stands there (`cond_names`
-/// of `specs/TokenPaths.antt` in `mp_program`). After `Memory` some of them may have been added.
+/// of mp_program's `specs/TokenPaths.antt`). After `Memory` some of them may have been added.
 #[cycle(condition_names)]
 pub fn condition_names<'a>(cond: &'a Cond, names: &mut Vec<&'a Name>) -> Result<(), Memory>
     ensures { OnOk result (names_in names.new.items ≡ names_in names.old.items ++ cond_names (cond_tree cond.now)) }

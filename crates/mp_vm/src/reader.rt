@@ -196,7 +196,7 @@ fn program_of(alloc: Global, sig: &Signature, draft: Draft) -> Result<Program, P
 ///
 /// The bytes are a program by `IsProgramOf` of mp_program's `specs/Reading.antt`: lines in their printed spelling in
 /// which nothing is wrong. Another text has the fault that `IsProgramFaultOf` says, with its line: `WrongVersion`, the
-/// first `BadLine`, or the first of `form_faults` of `specs/FormFaults.antt`. `Memory`: memory ran out.
+/// first `BadLine`, or the first of `form_faults` of mp_program's `specs/FormFaults.antt`. `Memory`: memory ran out.
 pub fn read_program(alloc: Global, sig: &Signature, bytes: &[u8]) -> Result<Program, ProgramError>
     requires few { length bytes.now < 2 ^ 32 - 1 }
     // What is answered is the program of the bytes.
