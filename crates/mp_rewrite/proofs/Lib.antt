@@ -14,3 +14,5 @@ pub mod CancellationSteps
 pub mod CancellationTurns
 pub mod CancelledNowhere
 pub mod Runs
+pub mod Within
+pub mod Apart

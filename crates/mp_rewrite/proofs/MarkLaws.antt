@@ -68,6 +68,15 @@ module _ (sig : Sig) (rules : List Rule) where
       (subst (λ x. IsKnown sig rules m x) q k, h.1)
   known-set-again (l ∷ ms) (u ∷ ts) (suc i) n m t h e k = (h.0, known-set-again ms ts i n m t h.1 e k)
 
+  -- and likewise where a tree is put down too
+  pub known-set-both : (ms : List Mark) (ts : List Tree) (i : ℕ) (m : Mark) (t : Tree) → AllKnown ms ts
+      → IsKnown sig rules m t → AllKnown (slice_set ms i m) (slice_set ts i t)
+  known-set-both [] [] i m t h k = h
+  known-set-both [] (u ∷ ts) i m t h k = absurd h
+  known-set-both (n ∷ ms) [] i m t h k = absurd h
+  known-set-both (n ∷ ms) (u ∷ ts) zero m t h k = (k, h.1)
+  known-set-both (n ∷ ms) (u ∷ ts) (suc i) m t h k = (h.0, known-set-both ms ts i m t h.1 k)
+
   -- nothing is known of any of them
   pub known-nothing : (ts : List Tree) → AllKnown (replicate (length ts) unknown) ts
   known-nothing [] = tt

@@ -48,7 +48,8 @@ set-between [] i x h = absurd (omega (arith, h))
 set-between (y ∷ xs) zero x h = refl
 set-between (y ∷ xs) (suc i) x h = ap (λ l. y ∷ l) (set-between xs i x (omega (arith, h)))
 
-pub set-insert : {X : Type 0} (xs : List X) (i : ℕ) (x : X) → i < length xs → slice_set xs i x ≡ insert (remove xs i) i x
+pub set-insert : {X : Type 0} (xs : List X) (i : ℕ) (x : X) → i < length xs
+    → slice_set xs i x ≡ insert (remove xs i) i x
 set-insert [] i x h = absurd (omega (arith, h))
 set-insert (y ∷ xs) zero x h = refl
 set-insert (y ∷ xs) (suc i) x h = ap (λ l. y ∷ l) (set-insert xs i x (omega (arith, h)))

@@ -15,3 +15,4 @@ pub mod Known
 pub mod Turn
 pub mod Cancellation
 pub mod Run
+pub mod Within

@@ -1,6 +1,6 @@
 //! What is known of the positions of a term, kept beside it.
 ghost use Rattle.std.specs.Prelude.{◌≡◌, ◌<◌, ◌≤◌, ◌++◌, ◌∷◌, [], ℕ, List, length, replicate};
-ghost use Rattle.std.specs.Prelude.{slice_get, slice_set, Some, OnOk, IfOk, IsTrue};
+ghost use Rattle.std.specs.Prelude.{slice_get, slice_set, Some, OnOk, IfOk, IfSome, IsTrue};
 ghost use Rattle.std.specs.List.{insert, remove};
 ghost use Rattle.mp_term.specs.Tree.{app, trees, Tree};
 ghost use Rattle.mp_term.specs.Signature.{Sig};
@@ -99,6 +99,21 @@ impl KnownArgs {
             Some(Known::Dead) => true,
             _ => false,
         }
+    }
+
+    // The index of the first argument that isn't known to be dead.
+    pub(crate) fn first_live(&self) -> Option<usize>
+        ensures within { IfSome result (λ i. i < length self.now) }
+        ensures dead { IfSome result (λ i. (k : ℕ) → k < i → slice_get self.now k ≡ Some dead) }
+    {
+        let mut index = 0;
+        while index < self.len() {
+            if !self.is_dead(index) {
+                return Some(index);
+            }
+            index += 1;
+        }
+        None
     }
 
     // What is known of the argument, which is taken to be dead from now on.

@@ -1,6 +1,7 @@
 //! Rewriting: steps at the first position of a term at which a rule admits something, one or many.
 #![tactic(auto)]
 
+mod below;
 mod cancellation;
 mod cancelled;
 mod fault;
@@ -9,6 +10,7 @@ mod known;
 mod known_redex;
 mod laws;
 mod next;
+mod quiet;
 mod redex;
 mod rewrite;
 mod rules;

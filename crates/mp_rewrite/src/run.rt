@@ -1,14 +1,14 @@
 //! Steps by a rule that cancels equal arguments, many in one pass over the arguments.
 ghost use Rattle.std.specs.Prelude.{◌≡◌, ◌≤◌, ◌<◌, ◌+◌, ◌++◌, [], List, length, map, replicate, true, IfOk, IfSome};
 ghost use Rattle.std.specs.Prelude.{IsTrue};
-ghost use Rattle.std.specs.List.{insert};
+ghost use Rattle.std.specs.List.{AllByRecursion, insert};
 ghost use Rattle.mp_term.specs.Tree.{Tree, symbol, app, trees};
 ghost use Rattle.mp_term.specs.View.{tree};
 ghost use Rattle.mp_term.specs.NormalTest.{ascending};
 ghost use Rattle.mp_term.specs.Normal.{IsNormal};
 ghost use Rattle.mp_term.specs.Signature.{is_comm};
 ghost use Rattle.mp_pattern.specs.Admission as plain;
-ghost use Rattle.mp_pattern.specs.Planned.{planned_rule};
+ghost use Rattle.mp_pattern.specs.Planned.{IsPlanned, planned_rule, rule_plan};
 ghost use Rattle.mp_pattern.specs.RuleView.{rule_tree};
 ghost use Rattle.mp_pattern.specs.View.{pattern_tree};
 ghost use Rattle.mp_theory.specs.OneList.{item_list};
@@ -16,9 +16,11 @@ ghost use Rattle.mp_rewrite.specs.Rewritable.{AreRewriteRules, IsRewritable};
 ghost use Rattle.mp_rewrite.specs.Turn.{IsHere};
 ghost use Rattle.mp_rewrite.specs.Run.{IsPairing, IsFirstPairing, IsRunnable, IsPassed, Leads, copies};
 
+use crate::below::run_argument;
 use crate::cancellation::{Cancellation, Taken, cancellation_of};
 use crate::in_place::{Marked, place};
 use crate::known::Known;
+use crate::quiet::quiet_index;
 use crate::taken::pair_place;
 use crate::valid::signature_is_valid;
 use mp_pattern::{Pattern, PlannedRule, Rule};
@@ -41,7 +43,7 @@ struct Pass {
 }
 
 // Whether the pattern is no wildcard, has another head than the operation, and doesn't collapse.
-fn is_apart(sig: &Signature, op: OpId, pattern: &Pattern) -> bool
+pub(crate) fn is_apart(sig: &Signature, op: OpId, pattern: &Pattern) -> bool
     ensures { IsTrue result → (ts : List Tree) (r : plain.Rule) → IsNormal sig.now (app op.0 (trees ts))
         → r.pattern ≡ pattern_tree pattern.now → item_list sig.now r (app op.0 (trees ts)) ≡ [] }
 {
@@ -269,7 +271,8 @@ fn run_of(
     Ok(Some(run))
 }
 
-// The term after as many steps as one pass over its arguments makes, at most so many, or after none.
+// The term after as many steps as one pass over its arguments makes, at most so many, or those of an argument that no
+// rule fits around, or after none.
 pub(crate) fn run_on(
     alloc: Global,
     sig: &Signature,
@@ -277,6 +280,7 @@ pub(crate) fn run_on(
     here: Marked,
     max: u64,
 ) -> Result<Run, Memory>
+    requires planned { AllByRecursion (IsPlanned sig.now) (map rule_plan rules.now) }
     requires rules { AreRewriteRules sig.now (map planned_rule rules.now) }
     requires here { IsHere sig.now (map planned_rule rules.now) here }
     ensures few { IfOk result (λ r. r.made ≤ max) }
@@ -284,8 +288,12 @@ pub(crate) fn run_on(
     ensures run { IfOk result (λ r. Leads sig.now (map planned_rule rules.now) r.made (tree here.term)
         (tree r.here.term)) }
 {
-    match run_of(alloc, sig, rules, &here.term, max)? {
-        None => Ok(Run { here, made: 0 }),
-        Some(run) => Ok(run),
+    if let Some(run) = run_of(alloc, sig, rules, &here.term, max)? {
+        return Ok(run);
     }
+    let Some(index) = quiet_index(sig, rules, &here) else {
+        return Ok(Run { here, made: 0 });
+    };
+    let below = run_argument(alloc, sig, rules, here, index, 0, max)?;
+    Ok(below.run)
 }

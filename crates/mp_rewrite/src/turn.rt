@@ -1,5 +1,5 @@
 //! The next step of a term, made in place.
-ghost use Rattle.std.specs.Prelude.{◌≡◌, ◌≤◌, ◌<◌, ◌∷◌, [], List, map, max, IfOk, is_some, true};
+ghost use Rattle.std.specs.Prelude.{◌≡◌, ◌≤◌, ◌<◌, ◌++◌, ◌∷◌, [], ℕ, List, map, max, IfOk, is_some, true};
 ghost use Rattle.std.specs.List.{AllByRecursion};
 ghost use Rattle.mp_term.specs.Tree.{Tree};
 ghost use Rattle.mp_term.specs.View.{tree};
@@ -14,6 +14,7 @@ ghost use Rattle.mp_pattern.specs.Planned.{IsPlanned, planned_rule, rule_plan};
 ghost use Rattle.mp_rewrite.specs.Rewritable.{AreRewriteRules, IsRewritable};
 ghost use Rattle.mp_rewrite.specs.Made.{IsReady, redex_of};
 ghost use Rattle.mp_rewrite.specs.Turn.{IsHere, IsMadeInPlace, IsNextTurn, IsPutIn, IsTurn};
+ghost use Rattle.mp_rewrite.specs.Within.{IsWhole, IsCounted};
 ghost use Rattle.mp_rewrite.specs.MarkView.{mark_of};
 ghost use Rattle.mp_rewrite.specs.Known.{IsKnown};
 
@@ -52,6 +53,37 @@ fn excess_of(nodes: u64, reach: u64) -> Option<Excess>
     }
 }
 
+// The nodes of the whole around the term, with a new one put in at the position, where that isn't too large or too
+// deep.
+pub(crate) fn nodes_within(
+    into: &Marked,
+    levels: u64,
+    position: &[u32],
+    new: &Term,
+) -> Result<u64, Excess>
+    requires few { node_count (tree new.now) ≤ MAX_TERM_NODES }
+    requires shallow { depth (tree new.now) ≤ MAX_DEPTH }
+    requires there { is_some (subterm (tree into.now.term) position.now) ≡ true }
+    ensures { (w : Tree) (p : List ℕ)
+        → IsWhole w p position.now levels (tree into.now.term) into.now.nodes
+        → IsCounted (replaced (p ++ position.now) (tree new.now) w) result }
+{
+    let Some(old) = at(&into.term, position) else {
+        unreachable!()
+    };
+    let nodes = into
+        .nodes
+        .saturating_sub(node_count(old))
+        .saturating_add(node_count(new));
+    let reach = depth(new)
+        .saturating_add(position.len() as u64)
+        .saturating_add(levels);
+    match excess_of(nodes, reach) {
+        Some(excess) => Err(excess),
+        None => Ok(nodes),
+    }
+}
+
 // The term with a normal one in place of the subterm at the position, in normal form, where that isn't too large or
 // too deep before it is normalised.
 fn put_in_within(
@@ -74,21 +106,15 @@ fn put_in_within(
         → IsKnown sig.now rules (mark_of m.known) (tree m.term)) }
     ensures nodes { IfOk result (λ m. m.nodes ≡ node_count (tree m.term)) }
 {
-    let Some(old) = at(&into.term, position) else {
-        unreachable!()
-    };
-    let nodes = into
-        .nodes
-        .saturating_sub(node_count(old))
-        .saturating_add(node_count(&new));
-    let reach = depth(&new).saturating_add(position.len() as u64);
-    if let Some(excess) = excess_of(nodes, reach) {
-        return Err(Stop::Exceeded(excess));
-    }
-    let Marked { term, known, .. } = into;
-    match put_in(alloc, sig, Marked { term, known, nodes }, position, new) {
-        Ok(whole) => Ok(whole),
-        Err(Memory) => Err(Stop::Memory),
+    match nodes_within(&into, 0, position, &new) {
+        Err(excess) => Err(Stop::Exceeded(excess)),
+        Ok(nodes) => {
+            let Marked { term, known, .. } = into;
+            match put_in(alloc, sig, Marked { term, known, nodes }, position, new) {
+                Ok(whole) => Ok(whole),
+                Err(Memory) => Err(Stop::Memory),
+            }
+        }
     }
 }
 

@@ -20,7 +20,8 @@ use mp_term::{Signature, Term, copy_term, node_count};
 use std::alloc::Global;
 
 // The rewriting of the term with at most `max` steps (`rewriting` of `specs/Computed.antt`). A step takes about as long
-// as its position is deep and its new term large, with one look at each argument beside the way.
+// as its position is deep and its new term large, with one look at each argument beside the way; the way begins below
+// the arguments that no rule fits around whatever they are.
 pub(crate) fn rewritten(
     alloc: Global,
     sig: &Signature,
