@@ -21,7 +21,7 @@ use Rattle.mp_parser.specs.Lexing.{behind}
 use Rattle.mp_parser.specs.Syntax.{Spot, Tree, Literal, condition, Statement, RuleOf, measure_word, sense_sign}
 use Rattle.mp_parser.specs.Syntax.{relation_word, property_word}
 use Rattle.mp_parser.specs.Machine.{step_in, heading, OfRule, Within, InStatement, InCondition, Frame, Operand}
-use Rattle.mp_parser.specs.Machine.{Square, open_count, Level, no_level, next_literal, next_alternative}
+use Rattle.mp_parser.specs.Machine.{Square, open_count, Level, no_level, next_literal}
 use Rattle.mp_parser.specs.Machine.{all_alternatives, Site, OnLeft, Lead, OfRelation, OfProperty, State, BeforeExpr}
 use Rattle.mp_parser.specs.Machine.{BeforeLiteral, BeforeBody, BeforeOperand, AfterExpr, AfterLiteral, Step, Go, Emit}
 use Rattle.mp_parser.specs.Machine.{is_punct, is_word, measure_of, sense_of, relation_of, property_of, relation_held}
@@ -64,11 +64,6 @@ behind-word text _ ts h = absurd cc
 abbrev without_relation : Within → List Frame → Site → Spot → Step
 without_relation x k s w = on_found (λ p. Go (BeforeOperand x k s (OfProperty p))) (step_amount x k s OnLeft w)
     (property_of w.text)
-
--- what a token that is no `and` does behind a literal
-abbrev step_behind_and : Within → List Frame → Level → Literal → Placed → Step
-step_behind_and x k v l t = cond (is_word (codes "or") t.token) (Go (BeforeLiteral x k (next_alternative v l)))
-    (step_whole x k (condition (all_alternatives v l)) t)
 
 module _ (limit : ℕ) where
   -- ---- steps

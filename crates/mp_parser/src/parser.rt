@@ -254,7 +254,7 @@ impl<'a> Parser<'a> {
     }
 }
 
-/// Whether a word is of digits alone.
+/// Whether a word is of digits alone: `is_number` of `specs/Machine.antt`. The empty word is.
 pub fn is_number(word: &[u8]) -> bool
     ensures { result ≡ is_number word.now }
 {

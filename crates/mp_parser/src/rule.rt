@@ -14,7 +14,7 @@ use crate::parser::Parser;
 use crate::tree::Expr;
 
 impl<'a> Parser<'a> {
-    /// Reads the arrow and an expression, where the arrow is held.
+    /// Reads the arrow and an expression, and gives this, where the arrow is held; else passes nothing and gives None.
     pub fn template(&mut self, arena: &mut Arena<'a>) -> Result<Option<&'a Expr<'a>>, SyntaxError>
         ensures read { TemplateGives (token_of self.new.token.kind) result (ahead self.old) (ahead self.new) }
         ensures shorter { OnOk result (length (ahead self.new) ≤ length (ahead self.old)) }
@@ -27,7 +27,7 @@ impl<'a> Parser<'a> {
         Ok(Some(arena.bump.try_alloc(template)?))
     }
 
-    /// Reads `if` and a condition, where `if` is held.
+    /// Reads `if` and a condition, and gives this, where `if` is held; else passes nothing and gives None.
     pub fn rule_condition(
         &mut self,
         arena: &mut Arena<'a>,
