@@ -102,7 +102,7 @@ module _ (sig : Sig) where
         opens = (rest-fine sig f (symbol_pattern n) (symbol_pattern n) a.0 h a.2, hs);
         trail = t;
       })
-  steps-ready f fs s (wild_token w v) x h hs t i = by_test (f.plain && is_sequence w) i
+  steps-ready f fs s (wild_token w v) x h hs t i = by_test (f.collapsed && is_sequence w) i
     where
       p : Pattern
       p = numbered_wildcard w v
@@ -184,7 +184,7 @@ module _ (sig : Sig) where
         opens = refl;
         values = v;
       })
-  steps-alike B C f fs s r (wild_token w y) x h v i = by_test (f.plain && is_sequence w) i
+  steps-alike B C f fs s r (wild_token w y) x h v i = by_test (f.collapsed && is_sequence w) i
     where
       by_test : (b : Bool) → In x (if b then [] else flat_map (wild_outs w y f fs s)
           (entries_for sig f (numbered_wildcard w y)))

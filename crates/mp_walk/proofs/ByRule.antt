@@ -75,7 +75,7 @@ module _ (sig : Sig) (vs : List (List ℕ)) where
 
   -- nothing is read after any state with the same operation on top
   abbrev Dead : List NetToken → Open → List Open → Type 0
-  Dead ks f fs = (g : Open) (s : Subst) (T : Table) → g.under ≡ f.under → g.plain ≡ f.plain
+  Dead ks f fs = (g : Open) (s : Subst) (T : Table) → g.under ≡ f.under → g.collapsed ≡ f.collapsed
       → Read ks (at (g ∷ fs) s) T ≡ []
 
   -- what is read after a wildcard, where it is read
@@ -83,7 +83,7 @@ module _ (sig : Sig) (vs : List (List ℕ)) where
   After ks p f fs s T e = listed_by (λ r. Read ks (at (rest_of_open p e f ∷ fs) r) (T ++ (e ∷ []))) (told sig f p e s)
 
   read-wild : (w : Wildcard) (v : Option ℕ) (ks : List NetToken) (f : Open) (fs : List Open) (s : Subst) (T : Table)
-      → (f.plain && is_sequence w) ≡ false
+      → (f.collapsed && is_sequence w) ≡ false
       → Read (wild_token w v ∷ ks) (at (f ∷ fs) s) T
       ≡ flat_map (After ks (wild_pattern w (option_map numbered v)) f fs s T)
       (entries_for sig f (wild_pattern w (option_map numbered v)))
@@ -137,12 +137,12 @@ module _ (sig : Sig) (vs : List (List ℕ)) where
 
   dead-wild : (w : Wildcard) (v : Option ℕ) (ks : List NetToken) (f : Open) (fs : List Open) (s : Subst) (T : Table)
       → Dead ks f fs → Read (wild_token w v ∷ ks) (at (f ∷ fs) s) T ≡ []
-  dead-wild w v ks f fs s T d = by_test (f.plain && is_sequence w) refl
+  dead-wild w v ks f fs s T d = by_test (f.collapsed && is_sequence w) refl
     where
       p : Pattern
       p = wild_pattern w (option_map numbered v)
 
-      by_test : (b : Bool) → (f.plain && is_sequence w) ≡ b → Read (wild_token w v ∷ ks) (at (f ∷ fs) s) T ≡ []
+      by_test : (b : Bool) → (f.collapsed && is_sequence w) ≡ b → Read (wild_token w v ∷ ks) (at (f ∷ fs) s) T ≡ []
       by_test true e = rw e refl
       by_test false e =
           read-wild w v ks f fs s T e
@@ -199,7 +199,7 @@ module _ (sig : Sig) (vs : List (List ℕ)) where
 
   -- a collapsed operation reads nothing where a child is a sequence
   dead-sequence : (ps : Patterns) (ks : List NetToken) (f : Open) (fs : List Open) (s : Subst) (T : Table)
-      → f.plain ≡ true → no_sequence ps ≡ false → Read (all_tokens sig vs ps ++ ks) (at (f ∷ fs) s) T ≡ []
+      → f.collapsed ≡ true → no_sequence ps ≡ false → Read (all_tokens sig vs ps ++ ks) (at (f ∷ fs) s) T ≡ []
   dead-sequence no_patterns ks f fs s T e n = cc
   dead-sequence (more_patterns (symbol_pattern m) ps) ks f fs s T e n =
       ap (λ ls. Read ls (at (f ∷ fs) s) T) (append_assoc (tokens sig vs (symbol_pattern m)) (all_tokens sig vs ps) ks)
@@ -283,7 +283,7 @@ module _ (sig : Sig) (vs : List (List ℕ)) where
 
   -- a wildcard whose variable has a number, or none
   pub wild-numbered : (w : Wildcard) (y : Option ℕ) (ks : List NetToken) (f : Open) (fs : List Open) (gs : List Frame)
-      (ps : Patterns) (k : ℕ) (s : Subst) (T : Table) → (f.plain && is_sequence w) ≡ false
+      (ps : Patterns) (k : ℕ) (s : Subst) (T : Table) → (f.collapsed && is_sequence w) ≡ false
       → ((e : Entry) (r : Subst) → Read sig vs ks
       (at sig vs (rest_of_open (wild_pattern w (option_map numbered y)) e f ∷ fs) r) (T ++ (e ∷ []))
       ≡ Listed k (settle (framed (rest_of_open (wild_pattern w (option_map numbered y)) e f) ps ∷ gs))

@@ -8,7 +8,6 @@ use Rattle.std.specs.Ordering.{is_lt}
 use Rattle.std.specs.declared.cmp.Ordering.{Ordering}
 use Rattle.std.specs.declared.cmp.Ordering.TheVariants.{Less, Equal, Greater}
 use Rattle.std.proofs.lemmas.List.{get_or-map, length-map, map_push}
-use Rattle.mp_term.specs.Listing.{IsListing}
 use Rattle.mp_term.proofs.ListLaws.{all-append}
 use Rattle.mp_pattern.specs.Lists.{Pair}
 use Rattle.mp_table.specs.Table.{Table}
@@ -64,10 +63,6 @@ pub lt-less : (o : Ordering) → is_lt o ≡ true → o ≡ Less
 lt-less Less h = refl
 lt-less Equal h = cc
 lt-less Greater h = cc
-
--- what ascends is in order
-pub ascending-listing : (ps : List Pair) → IsStrictlySortedBy found_cmp ps → IsListing found_cmp (Contains ps) ps
-ascending-listing ps h = record { exactly = λ p. (λ k. k, λ k. k); ascending = h }
 
 -- ---- one more pair
 

@@ -10,7 +10,6 @@ use Rattle.mp_term.specs.TreeLists.{trees-tree_list}
 use Rattle.mp_pattern.specs.NetTokens.{NetToken, sym_token, enter_token, leave_token, wild_token, comm_token}
 use Rattle.mp_ac.specs.CommPlan.{nodes_below}
 use Rattle.mp_theory.specs.Machine.{arguments}
-use Rattle.mp_theory.proofs.Narrow.{length-all_nodes}
 use Rattle.mp_walk.specs.Course.{opens_by, way_cost, IsWayValid}
 use Rattle.mp_walk.specs.Levels.{opens_load, search_cost, step_cost}
 use Rattle.mp_walk.specs.Rooms.{token_room}
@@ -46,9 +45,6 @@ arguments-nodes (app g us ∷ t ∷ ts) = omega arith
 rest-nodes : (n : ℕ) (ts : List Tree) → all_nodes (take n ts) + all_nodes (without tree_cmp (take n ts) ts)
     ≡ all_nodes ts
 rest-nodes n ts = ap (λ l. all_nodes (take n ts) + all_nodes l) (without-front n ts) ∙ nodes-parted n ts
-
-pub length-load : (f : Open) (fs : List Open) → length f.left ≤ opens_load (f ∷ fs)
-length-load f fs = omega (arith, length-all_nodes f.left)
 
 pub load-after : (k : NetToken) (f : Open) (fs : List Open) (way : ℕ) → IsWayValid k f way
     → opens_load (opens_by k f fs way) + way_cost k way ≤ opens_load (f ∷ fs) + token_room k

@@ -50,10 +50,6 @@ owes-kept : (b : Bool) → (b && true) ≡ b
 owes-kept true = refl
 owes-kept false = refl
 
-owes-none : (b : Bool) → (b && false) ≡ false
-owes-none true = refl
-owes-none false = refl
-
 -- a child that isn't left out takes a front, and the rest is left
 rest-front : (p : Pattern) (n : ℕ) (c : Bool) (f : Open) → is_left_out p (take n f.left) ≡ false
     → rest_of_open p (record { terms = take n f.left; collapsed = c }) f ≡ record f { left = drop n f.left }
@@ -62,12 +58,12 @@ rest-front p n c f h =
       under = f.under;
       left = l;
       owes = f.owes && not (is_left_out p (take n f.left));
-      plain =
-          f.plain;
+      collapsed =
+          f.collapsed;
     })
     (without-front n f.left)
-    ∙ ap (λ b. record { under = f.under; left = drop n f.left; owes = f.owes && not b; plain = f.plain }) h
-    ∙ ap (λ b. record { under = f.under; left = drop n f.left; owes = b; plain = f.plain }) (owes-kept f.owes)
+    ∙ ap (λ b. record { under = f.under; left = drop n f.left; owes = f.owes && not b; collapsed = f.collapsed }) h
+    ∙ ap (λ b. record { under = f.under; left = drop n f.left; owes = b; collapsed = f.collapsed }) (owes-kept f.owes)
 
 -- a symbol and an application take the first term
 pub rest-symbol : (n : List ℕ) (f : Open) (way : ℕ) → 1 ≤ length f.left

@@ -22,7 +22,6 @@ use Rattle.mp_pattern.specs.NetTokens.{all_renamed, tokens, all_tokens, tokens_o
 use Rattle.mp_pattern.specs.Normal.{is_loose}
 use Rattle.mp_pattern.specs.PatternTree.{Wildcard, dot, kind, plus, star, optional, counted, Pattern, symbol_pattern}
 use Rattle.mp_pattern.specs.PatternTree.{app_pattern, wild_pattern, Patterns, no_patterns, more_patterns, pattern_list}
-use Rattle.mp_pattern.specs.Size.{pattern_nodes, all_pattern_nodes}
 use Rattle.mp_pattern.specs.Sound.{DefaultIsNormal, holds_ops, all_hold_ops}
 use Rattle.mp_pattern.specs.SoundRule.{IsSoundWildcard, IsFormed, AreFormed, IsSoundPattern, allows_patterns}
 use Rattle.mp_pattern.specs.Subpatterns.{subpatterns, all_subpatterns}
@@ -42,7 +41,7 @@ use Rattle.mp_theory.proofs.FirstItems.{in-firsts_after}
 use Rattle.mp_walk.proofs.NumberedNames.{NamesIn, AllNamesIn, own-names, all_renamed-itself}
 use Rattle.mp_pattern.proofs.PlanParts.{plan_fault-parts, parts-plan_fault}
 use Rattle.mp_walk.proofs.Renaming.{new_name, same_new, renamed-listed}
-use Rattle.mp_walk.proofs.Walked.{tokens-read}
+use Rattle.mp_walk.proofs.Walked.{tokens-read, pattern_nodes-renamed}
 use Rattle.mp_walk.proofs.WalkTheorem.{listed-fits, fits-listed}
 
 -- ---- numbers in order
@@ -116,16 +115,6 @@ module _ (sig : Sig) (vs : List (List ℕ)) where
         ∙ sym (ap (map (new_name sig vs few)) (map-append (λ (u : Use). u.name) (uses f p) (all_uses f ps))
         ∙ map-append (new_name sig vs few) (map (λ (u : Use). u.name) (uses f p))
         (map (λ (u : Use). u.name) (all_uses f ps)))
-
-  mutual
-    nodes-new : (p : Pattern) → pattern_nodes (renamed vs p) ≡ pattern_nodes p
-    nodes-new (symbol_pattern n) = refl
-    nodes-new (wild_pattern w x) = refl
-    nodes-new (app_pattern g ps) = ap (λ n. n + 1) (all_nodes-new ps)
-
-    all_nodes-new : (ps : Patterns) → all_pattern_nodes (all_renamed vs ps) ≡ all_pattern_nodes ps
-    all_nodes-new no_patterns = refl
-    all_nodes-new (more_patterns p ps) = omega (arith, nodes-new p, all_nodes-new ps)
 
   mutual
     held-new : (p : Pattern) → holds_ops sig (renamed vs p) ≡ holds_ops sig p
@@ -371,7 +360,7 @@ module _ (sig : Sig) where
         stands = stands-renamed sig p k.few_variables;
         planned = parts-plan_fault (renamed (variables p) p) (record {
           firm = loose-new sig (variables p) p ∙ k.firm;
-          few_nodes = omega (arith, nodes-new sig (variables p) p, k.few_nodes);
+          few_nodes = omega (arith, pattern_nodes-renamed sig (variables p) p, k.few_nodes);
           few_variables = (let e : length (variables (renamed (variables p) p)) ≡ length (variables p) =
               ap length (variables-new sig p k.few_variables)
               ∙ new-length sig p k.few_variables in omega (arith, e, k.few_variables));

@@ -14,7 +14,7 @@ use Rattle.mp_theory.specs.Machine.{is_ended, entered, taken_out, onward, said, 
 use Rattle.mp_theory.specs.Trail.{listed_by, derivations}
 use Rattle.mp_theory.specs.OneList.{Item}
 use Rattle.mp_theory.proofs.SubBags.{map-flat}
-use Rattle.mp_walk.proofs.ByRule.{flat-same, flat-flat}
+use Rattle.mp_walk.proofs.ByRule.{flat-same, flat-map, flat-flat}
 
 -- the nodes that are still to come
 abbrev pub frame_nodes : List Frame → ℕ
@@ -51,11 +51,6 @@ module _ (sig : Sig) where
   search-refused : (k : ℕ) (T : Table) (s : Subst) → Search k refused T s ≡ []
   search-refused zero T s = refl
   search-refused (suc k) T s = refl
-
-  flat-mapped : {X Y Z : Type 0} (f : Y → List Z) (g : X → Y) (xs : List X)
-      → flat_map f (map g xs) ≡ flat_map (λ x. f (g x)) xs
-  flat-mapped f g [] = refl
-  flat-mapped f g (x ∷ xs) = ap (λ ys. f (g x) ++ ys) (flat-mapped f g xs)
 
   -- the search over the lower frames from an item on
   abbrev Lower : ℕ → List Frame → Table → Item → List Item
@@ -125,7 +120,7 @@ module _ (sig : Sig) where
           ∙ flat-same (Lower b base (T ++ (d ∷ []))) (λ i. Lower b base T (behind (d ∷ []) i))
           (Search k (settle (entered q d (taken_out q d f ∷ fs))) [] r)
           (λ i. ap (λ V. Search b (settle base) V i.1) (append_assoc T (d ∷ []) i.0))
-          ∙ sym (flat-mapped (Lower b base T) (behind (d ∷ []))
+          ∙ sym (flat-map (Lower b base T) (behind (d ∷ []))
           (Search k (settle (entered q d (taken_out q d f ∷ fs))) [] r))
           ∙ ap (flat_map (Lower b base T)) (sym
           (behind-all k (settle (entered q d (taken_out q d f ∷ fs))) (d ∷ []) [] r))

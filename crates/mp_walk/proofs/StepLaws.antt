@@ -88,7 +88,7 @@ abbrev pub no_frame : Frame
 no_frame = record {
   under = None;
   left = record { ref_ptr = (0, 0); now = [] };
-  plain = false;
+  collapsed = false;
   owes = false;
   outer = None;
 }

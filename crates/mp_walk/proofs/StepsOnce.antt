@@ -116,7 +116,7 @@ module _ (sig : Sig) where
         | false ↦ tt
       ]
   steps-once f fs s (wild_token w y) h t =
-      elim (f.plain && is_sequence w) as (λ b. NoneTwice (outs (if b then []
+      elim (f.collapsed && is_sequence w) as (λ b. NoneTwice (outs (if b then []
       else flat_map (wild_outs sig w y f fs s) (entries_for sig f (numbered_wildcard w y))))) [
         | true ↦ tt
         | false ↦ flat-once (wild_outs sig w y f fs s) (entries_for sig f (numbered_wildcard w y))
@@ -177,7 +177,7 @@ module _ (sig : Sig) where
       by_done true (inl e) = ap (λ (y : List Entry × State). length y.0) e
       by_done true (inr j) = absurd j
       by_done false j = absurd j
-  steps-wide f fs s (wild_token w y) x h t i = by_test (f.plain && is_sequence w) i
+  steps-wide f fs s (wild_token w y) x h t i = by_test (f.collapsed && is_sequence w) i
     where
       by_test : (b : Bool) → In x (if b then [] else flat_map (wild_outs sig w y f fs s)
           (entries_for sig f (numbered_wildcard w y)))

@@ -148,7 +148,7 @@ module _ (sig : Sig) where
         | false ↦ tt
       ]
   steps_in-same f fs s r (wild_token w y) v =
-      elim (f.plain && is_sequence w) as
+      elim (f.collapsed && is_sequence w) as
       (λ b. SameSteps (if b then [] else flat_map (one_steps s) (entries_for sig f (numbered_wildcard w y)))
       (if b then [] else flat_map (one_steps r) (entries_for sig f (numbered_wildcard w y)))) [
         | true ↦ tt

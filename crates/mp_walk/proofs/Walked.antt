@@ -28,14 +28,14 @@ pub record Inner : Type 0 where
   pub children : Patterns
   pub left : List Tree
   pub owes : Bool
-  pub plain : Bool
+  pub collapsed : Bool
 
 module _ (sig : Sig) (vs : List (List ℕ)) where
   abbrev open_of : Inner → Open
-  open_of F = record { under = Some F.op; left = F.left; owes = F.owes; plain = F.plain }
+  open_of F = record { under = Some F.op; left = F.left; owes = F.owes; collapsed = F.collapsed }
 
   abbrev pub root_of : List Tree → Open
-  root_of l = record { under = None; left = l; owes = false; plain = false }
+  root_of l = record { under = None; left = l; owes = false; collapsed = false }
 
   -- the open operations, their frames, the tokens and the nodes that are still to come
   abbrev opens : List Inner → List Tree → List Open
@@ -57,7 +57,7 @@ module _ (sig : Sig) (vs : List (List ℕ)) where
   -- a collapsed operation has no sequence
   abbrev Ready : List Inner → Type 0
   Ready [] = ⊤
-  Ready (F ∷ Fs) = (F.plain ≡ true → no_sequence F.children ≡ true) × Ready Fs
+  Ready (F ∷ Fs) = (F.collapsed ≡ true → no_sequence F.children ≡ true) × Ready Fs
 
   -- where k nodes are still to come, the tokens read what the search lists
   abbrev Same : ℕ → Type 0
@@ -74,16 +74,16 @@ module _ (sig : Sig) (vs : List (List ℕ)) where
   some (wild_pattern w x) = omega arith
   some (app_pattern g qs) = omega arith
 
-  -- what follows the wildcards of a plain operation
-  plain-later : (p : Pattern) (ps : Patterns) → no_sequence (more_patterns p ps) ≡ true → no_sequence ps ≡ true
-  plain-later (symbol_pattern n) ps h = h
-  plain-later (app_pattern g qs) ps h = h
-  plain-later (wild_pattern w x) ps h = (and_parts (not (is_sequence w)) (no_sequence ps) h).1
+  -- what follows the wildcards of a collapsed operation
+  collapsed-later : (p : Pattern) (ps : Patterns) → no_sequence (more_patterns p ps) ≡ true → no_sequence ps ≡ true
+  collapsed-later (symbol_pattern n) ps h = h
+  collapsed-later (app_pattern g qs) ps h = h
+  collapsed-later (wild_pattern w x) ps h = (and_parts (not (is_sequence w)) (no_sequence ps) h).1
 
-  no_plain_sequence : (b : Bool) (w : Wildcard) (x : Option (List ℕ)) (ps : Patterns)
+  no_collapsed_sequence : (b : Bool) (w : Wildcard) (x : Option (List ℕ)) (ps : Patterns)
       → (b ≡ true → no_sequence (more_patterns (wild_pattern w x) ps) ≡ true) → (b && is_sequence w) ≡ false
-  no_plain_sequence false w x ps h = refl
-  no_plain_sequence true w x ps h = by_test (is_sequence w)
+  no_collapsed_sequence false w x ps h = refl
+  no_collapsed_sequence true w x ps h = by_test (is_sequence w)
       (and_parts (not (is_sequence w)) (no_sequence ps) (h refl)).0
     where
       by_test : (c : Bool) → not c ≡ true → c ≡ false
@@ -92,14 +92,15 @@ module _ (sig : Sig) (vs : List (List ℕ)) where
 
   -- renaming keeps the number of nodes
   mutual
-    node-count : (p : Pattern) → pattern_nodes (renamed vs p) ≡ pattern_nodes p
-    node-count (symbol_pattern n) = refl
-    node-count (wild_pattern w x) = refl
-    node-count (app_pattern g ps) = ap (λ n. n + 1) (node-counts ps)
+    pub pattern_nodes-renamed : (p : Pattern) → pattern_nodes (renamed vs p) ≡ pattern_nodes p
+    pattern_nodes-renamed (symbol_pattern n) = refl
+    pattern_nodes-renamed (wild_pattern w x) = refl
+    pattern_nodes-renamed (app_pattern g ps) = ap (λ n. n + 1) (all_pattern_nodes-renamed ps)
 
-    node-counts : (ps : Patterns) → all_pattern_nodes (all_renamed vs ps) ≡ all_pattern_nodes ps
-    node-counts no_patterns = refl
-    node-counts (more_patterns p ps) = omega (arith, node-count p, node-counts ps)
+    all_pattern_nodes-renamed : (ps : Patterns) → all_pattern_nodes (all_renamed vs ps) ≡ all_pattern_nodes ps
+    all_pattern_nodes-renamed no_patterns = refl
+    all_pattern_nodes-renamed (more_patterns p ps) =
+        omega (arith, pattern_nodes-renamed p, all_pattern_nodes-renamed ps)
 
   -- a commutative child: all entries below it are put out at once
   comm-step : (g : ℕ) (cs : Patterns) (ks : List NetToken) (f : Open) (fs : List Open) (gs : List Frame) (ps : Patterns)
@@ -137,7 +138,7 @@ module _ (sig : Sig) (vs : List (List ℕ)) where
   -- a child of the innermost operation, where the places after it are known
   child-same : (p : Pattern) (ps : Patterns) (ks : List NetToken) (f : Open) (fs : List Open) (gs : List Frame)
       (m k : ℕ) (s : Subst) (T : Table) → pattern_nodes p + m ≡ k
-      → (f.plain ≡ true → no_sequence (more_patterns p ps) ≡ true)
+      → (f.collapsed ≡ true → no_sequence (more_patterns p ps) ≡ true)
       → ((e : Entry) (r : Subst) (q : Pattern) (U : Table)
       → Read sig vs ks (at sig vs (rest_of_open q e f ∷ fs) r) U
       ≡ Listed sig vs m (settle (framed sig vs (rest_of_open q e f) ps ∷ gs)) U r)
@@ -157,17 +158,18 @@ module _ (sig : Sig) (vs : List (List ℕ)) where
       subst (λ j. Read sig vs (wild_token w None ∷ ks) (at sig vs (f ∷ fs) s) T
       ≡ Listed sig vs j (child (wild_pattern w None) (framed sig vs f ps) gs) T s)
       (let z : suc m ≡ k = omega arith in z)
-      (wild-numbered sig vs w None ks f fs gs ps m s T (no_plain_sequence f.plain w None ps q)
+      (wild-numbered sig vs w None ks f fs gs ps m s T (no_collapsed_sequence f.collapsed w None ps q)
       (λ d r. h d r (wild_pattern w None) (T ++ (d ∷ []))))
   child-same (wild_pattern w (Some x)) ps ks f fs gs m k s T e q h i =
       subst (λ j. Read sig vs (wild_token w (Some (number_in vs x)) ∷ ks) (at sig vs (f ∷ fs) s) T
       ≡ Listed sig vs j (child (renamed vs (wild_pattern w (Some x))) (framed sig vs f ps) gs) T s)
       (let z : suc m ≡ k = omega arith in z)
-      (wild-numbered sig vs w (Some (number_in vs x)) ks f fs gs ps m s T (no_plain_sequence f.plain w (Some x) ps q)
+      (wild-numbered sig vs w (Some (number_in vs x)) ks f fs gs ps m s T
+      (no_collapsed_sequence f.collapsed w (Some x) ps q)
       (λ d r. h d r (renamed vs (wild_pattern w (Some x))) (T ++ (d ∷ []))))
   child-same (app_pattern g qs) ps ks f fs gs m k s T e q h i =
       let z : suc (all_pattern_nodes qs + m) ≡ k = omega arith in
-      let y : suc (all_pattern_nodes (all_renamed vs qs) + m) ≡ k = omega (arith, node-counts qs) in
+      let y : suc (all_pattern_nodes (all_renamed vs qs) + m) ≡ k = omega (arith, all_pattern_nodes-renamed qs) in
       elim (is_comm sig g) as (λ b. Read sig vs
       ((if b then comm_token (renamed vs (app_pattern g qs)) ∷ [] else
       (enter_token g ∷ (all_tokens sig vs qs ++ (leave_token g ∷ [])))) ++ ks) (at sig vs (f ∷ fs) s) T
@@ -188,13 +190,13 @@ module _ (sig : Sig) (vs : List (List ℕ)) where
 
   -- the operation F on top, its fields apart
   inner-same : (k : ℕ) → ((j : ℕ) → j < k → Same j)
-      → (op : ℕ) (children : Patterns) (left : List Tree) (owes plain : Bool) (Fs : List Inner) (qs : Patterns)
+      → (op : ℕ) (children : Patterns) (left : List Tree) (owes collapsed : Bool) (Fs : List Inner) (qs : Patterns)
       (l : List Tree) (s : Subst) (T : Table)
       → (nodes Fs qs ≡ k → Read sig vs (to_read Fs qs) (at sig vs (opens Fs l) s) T
       ≡ Listed sig vs k (settle (frames Fs qs l)) T s)
-      → all_pattern_nodes children + nodes Fs qs ≡ k → (plain ≡ true → no_sequence children ≡ true) → Ready Fs
+      → all_pattern_nodes children + nodes Fs qs ≡ k → (collapsed ≡ true → no_sequence children ≡ true) → Ready Fs
       → Read sig vs (all_tokens sig vs children ++ (leave_token op ∷ to_read Fs qs))
-      (at sig vs (record { under = Some op; left = left; owes = owes; plain = plain } ∷ opens Fs l) s) T
+      (at sig vs (record { under = Some op; left = left; owes = owes; collapsed = collapsed } ∷ opens Fs l) s) T
       ≡ Listed sig vs k (settle (record {
         under = Some op;
         children = all_renamed vs children;
@@ -202,8 +204,8 @@ module _ (sig : Sig) (vs : List (List ℕ)) where
         owes =
             owes;
       } ∷ frames Fs qs l)) T s
-  inner-same k ih op no_patterns left owes plain Fs qs l s T go e q r =
-      read-leave sig vs op (to_read Fs qs) (record { under = Some op; left = left; owes = owes; plain = plain })
+  inner-same k ih op no_patterns left owes collapsed Fs qs l s T go e q r =
+      read-leave sig vs op (to_read Fs qs) (record { under = Some op; left = left; owes = owes; collapsed = collapsed })
       (opens Fs l) s T
       ∙ elim (is_done left owes) as (λ b. (if b then Read sig vs (to_read Fs qs) (at sig vs (opens Fs l) s) T else [])
       ≡ Listed sig vs k (if b then settle (frames Fs qs l) else refused) T s) [
@@ -211,8 +213,8 @@ module _ (sig : Sig) (vs : List (List ℕ)) where
             (omega (arith, e))
         | false ↦ sym (refused-none k T s)
       ]
-  inner-same k ih op (more_patterns p ps) left owes plain Fs qs l s T go e q r =
-      let f : Open = record { under = Some op; left = left; owes = owes; plain = plain } in
+  inner-same k ih op (more_patterns p ps) left owes collapsed Fs qs l s T go e q r =
+      let f : Open = record { under = Some op; left = left; owes = owes; collapsed = collapsed } in
       ap (λ ls. Read sig vs ls (at sig vs (f ∷ opens Fs l) s) T)
       (append_assoc (tokens sig vs p) (all_tokens sig vs ps) (leave_token op ∷ to_read Fs qs))
       ∙ child-same p ps (all_tokens sig vs ps ++ (leave_token op ∷ to_read Fs qs)) f (opens Fs l) (frames Fs qs l)
@@ -224,15 +226,15 @@ module _ (sig : Sig) (vs : List (List ℕ)) where
         left = (rest_of_open t d1 f).left;
         owes =
             (rest_of_open t d1 f).owes;
-        plain = plain;
-      } ∷ Fs) qs l r1 U refl ((λ a. plain-later p ps (q a)), r))
+        collapsed = collapsed;
+      } ∷ Fs) qs l r1 U refl ((λ a. collapsed-later p ps (q a)), r))
       (λ g us d1 pe a j z. ih j (omega arith)
       (record {
         op = g;
         children = us;
         left = (opened g d1).left;
         owes = d1.collapsed;
-        plain =
+        collapsed =
             d1.collapsed;
       } ∷ record {
         op = op;
@@ -241,10 +243,10 @@ module _ (sig : Sig) (vs : List (List ℕ)) where
             (rest_of_open (app_pattern g no_patterns) d1 f).left;
         owes =
             (rest_of_open (app_pattern g no_patterns) d1 f).owes;
-        plain = plain;
+        collapsed = collapsed;
       } ∷ Fs) qs l s (T ++ (d1 ∷ []))
       (let w : pattern_nodes p ≡ all_pattern_nodes us + 1 = ap pattern_nodes pe in omega arith)
-      (a, ((λ b. plain-later p ps (q b)), r)))
+      (a, ((λ b. collapsed-later p ps (q b)), r)))
 
   -- the root on top
   root-same : (k : ℕ) → ((j : ℕ) → j < k → Same j) → (qs : Patterns) (l : List Tree) (s : Subst) (T : Table)
@@ -261,13 +263,13 @@ module _ (sig : Sig) (vs : List (List ℕ)) where
       (λ d r t U. ih (all_pattern_nodes ps) (omega (arith, some p)) [] ps
       (rest_of_open t d (root_of l)).left r U refl tt)
       (λ g us d pe a j z. ih j (omega arith)
-      (record { op = g; children = us; left = (opened g d).left; owes = d.collapsed; plain = d.collapsed } ∷ []) ps
+      (record { op = g; children = us; left = (opened g d).left; owes = d.collapsed; collapsed = d.collapsed } ∷ []) ps
       (rest_of_open (app_pattern g no_patterns) d (root_of l)).left s (T ++ (d ∷ []))
       (let w : pattern_nodes p ≡ all_pattern_nodes us + 1 = ap pattern_nodes pe in omega arith) (a, tt))
 
   same-from : (k : ℕ) → ((j : ℕ) → j < k → Same j) → Same k
   same-from k ih [] qs l s T e r = root-same k ih qs l s T e
-  same-from k ih (F ∷ Fs) qs l s T e r = inner-same k ih F.op F.children F.left F.owes F.plain Fs qs l s T
+  same-from k ih (F ∷ Fs) qs l s T e r = inner-same k ih F.op F.children F.left F.owes F.collapsed Fs qs l s T
       (λ n. same-from k ih Fs qs l s T n r.1) e r.0 r.1
 
   below : (n j : ℕ) → j < n → Same j

@@ -79,7 +79,7 @@ module _ (sig : Sig) (f : Open) (fs : List Open) (s : Subst) (w : Wildcard) (x :
   -- a front that the wildcard may not take, or that is longer than what is left
   refused-front : (n : ℕ) → is_front sig f (numbered_wildcard w x) n ≡ false
       → way_steps sig f fs s (wild_token w x) n ≡ []
-  refused-front n e = elim (f.plain && is_sequence w) as
+  refused-front n e = elim (f.collapsed && is_sequence w) as
       (λ b. (if b then [] else front_steps sig f fs s w x n) ≡ []) [ true ↦ refl | false ↦ rw e refl ]
 
   pub wild-none : (n : ℕ) → is_some (given sig f.under w (take n f.left)) ≡ false
@@ -101,13 +101,13 @@ module _ (sig : Sig) (f : Open) (fs : List Open) (s : Subst) (w : Wildcard) (x :
     where
       by_test : (b : Bool) → is_front sig f (numbered_wildcard w x) n ≡ b → way_steps sig f fs s (wild_token w x) n ≡ []
       by_test false h = refused-front n h
-      by_test true h = elim (f.plain && is_sequence w) as
+      by_test true h = elim (f.collapsed && is_sequence w) as
           (λ b. (if b then [] else front_steps sig f fs s w x n) ≡ [])
           [ true ↦ refl | false ↦ rw h (rw (told-by sig f w x n s ∙ e) refl) ]
 
   -- a sequence under a collapsed operation
-  pub wild-plain : (f.plain && is_sequence w) ≡ true → (n : ℕ) → way_steps sig f fs s (wild_token w x) n ≡ []
-  wild-plain e n = rw e refl
+  pub wild-collapsed : (f.collapsed && is_sequence w) ≡ true → (n : ℕ) → way_steps sig f fs s (wild_token w x) n ≡ []
+  wild-collapsed e n = rw e refl
 
   module _ (n : ℕ) (d : DefaultIsNormal sig w) (h : n ≤ length f.left)
       (g : is_some (given sig f.under w (take n f.left)) ≡ true) where
@@ -117,7 +117,7 @@ module _ (sig : Sig) (f : Open) (fs : List Open) (s : Subst) (w : Wildcard) (x :
         rw e (rw g (default_passes-normal sig (option_map numbered x) w (take n f.left) d))
 
     -- what is bound
-    pub wild-put : (f.plain && is_sequence w) ≡ false → (r : Subst)
+    pub wild-put : (f.collapsed && is_sequence w) ≡ false → (r : Subst)
         → told_by sig f.under w x (take n f.left) s ≡ Some r → way_steps sig f fs s (wild_token w x) n
         ≡ (
           front_entry f.left n ∷ [],
@@ -126,7 +126,7 @@ module _ (sig : Sig) (f : Open) (fs : List Open) (s : Subst) (w : Wildcard) (x :
     wild-put p r e = rw p (rw may-take (rw (told-by sig f w x n s ∙ e) refl))
 
     -- either, as binding comes out
-    pub wild-outcome : (f.plain && is_sequence w) ≡ false → (b : Bool) (r : Subst)
+    pub wild-outcome : (f.collapsed && is_sequence w) ≡ false → (b : Bool) (r : Subst)
         → MatchBool b (told_by sig f.under w x (take n f.left) s ≡ Some r)
         (told_by sig f.under w x (take n f.left) s ≡ None)
         → MatchBool b (way_steps sig f fs s (wild_token w x) n ≡ (

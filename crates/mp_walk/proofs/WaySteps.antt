@@ -265,15 +265,15 @@ module _ (sig : Sig) (f : Open) (fs : List Open) (s : Subst) (ordered : comm_abo
       later : (m : ℕ) → 2 ≤ m → way_steps sig f fs s (enter_token g) m ≡ []
       later m h = rw (let z : nat_lt m 2 ≡ false = grind (arith, nat_tests) in z) refl
   steps_in-ways (wild_token w x) =
-      by_plain (f.plain && is_sequence w)
+      by_collapsed (f.collapsed && is_sequence w)
     where
-      by_plain : (b : Bool)
+      by_collapsed : (b : Bool)
           → (if b then [] else flat_map (λ e.
           listed_by (λ r. out (e ∷ []) (at (rest_of_open (numbered_wildcard w x) e f ∷ fs) r) ∷ [])
           (told sig f (numbered_wildcard w x) e s)) (entries_for sig f (numbered_wildcard w x)))
           ≡ flat_map (λ n. if b then [] else front_steps sig f fs s w x n) (range_with_len 0 (length f.left + 2 - 0))
-      by_plain true = sym (flat-none (λ n. []) (range_with_len 0 (length f.left + 2 - 0)) (λ n. refl))
-      by_plain false =
+      by_collapsed true = sym (flat-none (λ n. []) (range_with_len 0 (length f.left + 2 - 0)) (λ n. refl))
+      by_collapsed false =
           steps-by (numbered_wildcard w x) (λ e.
           listed_by (λ r. out (e ∷ []) (at (rest_of_open (numbered_wildcard w x) e f ∷ fs) r) ∷ [])
           (told sig f (numbered_wildcard w x) e s))

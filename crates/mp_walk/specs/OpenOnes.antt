@@ -22,7 +22,7 @@ open_of t f = record {
   under = above f.under;
   left = terms_at t f.left.now;
   owes = f.owes;
-  plain = f.plain;
+  collapsed = f.collapsed;
 }
 
 -- the open operations from the one at a place outward, where these are known of each place

@@ -25,7 +25,7 @@ pub record Open : Type 0 where
   pub under : Option ℕ
   pub left : List Tree
   pub owes : Bool
-  pub plain : Bool
+  pub collapsed : Bool
 
 -- the open operations, the innermost first, and the trail
 pub record State : Type 0 where
@@ -38,7 +38,7 @@ rest_of_open p e f = record {
   under = f.under;
   left = without tree_cmp e.terms f.left;
   owes = f.owes && not (is_left_out p e.terms);
-  plain = f.plain;
+  collapsed = f.collapsed;
 }
 
 -- what the children of an application take together where it has the entry
@@ -47,7 +47,7 @@ taken_below e = if e.collapsed then e.terms else arguments e.terms
 
 -- the operation that the entry of an application opens
 abbrev pub opened : ℕ → Entry → Open
-opened g e = record { under = Some g; left = taken_below e; owes = e.collapsed; plain = e.collapsed }
+opened g e = record { under = Some g; left = taken_below e; owes = e.collapsed; collapsed = e.collapsed }
 
 -- the wildcard of a token, its variable named by its number
 abbrev pub numbered_wildcard : Wildcard → Option ℕ → Pattern
@@ -56,7 +56,7 @@ numbered_wildcard w x = wild_pattern w (option_map numbered x)
 -- before the first token
 abbrev pub begin_state : Tree → State
 begin_state t = record {
-  open_ones = record { under = None; left = t ∷ []; owes = false; plain = false } ∷ [];
+  open_ones = record { under = None; left = t ∷ []; owes = false; collapsed = false } ∷ [];
   trail = [];
 }
 
@@ -86,7 +86,7 @@ module _ (sig : Sig) (below : Pattern → Entry → Subst → List Item) where
       map (λ e. (e ∷ [], record { open_ones = rest_of_open (symbol_pattern n) e f ∷ fs; trail = s }))
       (entries_for sig f (symbol_pattern n))
   steps_in f fs s (wild_token w x) =
-      if f.plain && is_sequence w then [] else
+      if f.collapsed && is_sequence w then [] else
       flat_map (λ e. listed_by (λ r. (
         e ∷ [],
         record {

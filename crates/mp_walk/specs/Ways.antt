@@ -92,7 +92,7 @@ module _ (sig : Sig) (f : Open) (fs : List Open) (s : Subst) where
         },
       ) ∷ []
       else []
-  way_steps (wild_token w x) n = if f.plain && is_sequence w then [] else front_steps w x n
+  way_steps (wild_token w x) n = if f.collapsed && is_sequence w then [] else front_steps w x n
   way_steps (comm_token p) way =
       if is_way sig f p way
       then map (item_step f fs p (first_entry f.left way)) (below_items sig p (first_entry f.left way) s)

@@ -9,7 +9,6 @@ ghost use Rattle.mp_walk.specs.Course.{entries_by, entries_in, table_read};
 ghost use Rattle.mp_walk.specs.Entries.{entry_read, IsEntryAt};
 ghost use Rattle.mp_walk.specs.Levels.{AreLevels, HasSearch, read_of, search_of, trail_before};
 ghost use Rattle.mp_walk.specs.OpenOnes.{IsFrame, IsPlaceBelow, AreFrames, open_of, opens};
-ghost use Rattle.mp_walk.specs.Walkable.{Path};
 
 use crate::frame::Frame;
 use crate::level::Level;

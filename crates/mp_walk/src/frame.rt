@@ -21,7 +21,7 @@ use mp_term::OpId;
 pub(crate) struct Frame<'a> {
     pub(crate) under: Option<OpId>,
     pub(crate) left: &'a [Rank],
-    pub(crate) plain: bool,
+    pub(crate) collapsed: bool,
     pub(crate) owes: bool,
     pub(crate) outer: Option<usize>,
 }
@@ -37,7 +37,7 @@ impl<'a> Frame<'a> {
         Frame {
             under: None,
             left: table.root_list(),
-            plain: false,
+            collapsed: false,
             owes: false,
             outer: None,
         }
@@ -68,7 +68,7 @@ impl<'a> Frame<'a> {
         Frame {
             under: Some(op),
             left,
-            plain: collapsed,
+            collapsed,
             owes: collapsed,
             outer: Some(outer),
         }

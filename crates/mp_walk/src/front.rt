@@ -168,7 +168,7 @@ fn take_exactly(
     requires ordered { comm_above sig.now (above frame.now.under) ≡ false }
     requires wild { net_token token.now
         ≡ wild_token (shape_of (net_token token.now)) (number_of (net_token token.now)) }
-    requires open { ((open_of table.now frame.now).plain && is_sequence (shape_of (net_token token.now))) ≡ false }
+    requires open { ((open_of table.now frame.now).collapsed && is_sequence (shape_of (net_token token.now))) ≡ false }
     requires held { HoldsDefault table.now (shape_of (net_token token.now)) }
     requires default { DefaultIsNormal sig.now (shape_of (net_token token.now)) }
     requires var { IsVariableNumber (number_of (net_token token.now)) }
@@ -210,9 +210,9 @@ fn is_barred(frame: &Frame<'_>, token: &NetToken) -> bool
     requires wild { net_token token.now
         ≡ wild_token (shape_of (net_token token.now)) (number_of (net_token token.now)) }
     ensures { (t : plain_table.Table) →
-        result ≡ ((open_of t frame.now).plain && is_sequence (shape_of (net_token token.now))) }
+        result ≡ ((open_of t frame.now).collapsed && is_sequence (shape_of (net_token token.now))) }
 {
-    frame.plain && is_sequence(token)
+    frame.collapsed && is_sequence(token)
 }
 
 // The length of the list that the variable of a sequence wildcard is bound to.

@@ -7,7 +7,6 @@ ghost use Rattle.mp_walk.specs.OpenOnes.{IsFrame, IsPlaceBelow, AreFrames, open_
 ghost use Rattle.mp_walk.specs.SoundTokens.{IsSoundToken};
 
 use crate::frame::Frame;
-use crate::token::is_optional;
 use mp_pattern::NetToken;
 use mp_table::Table;
 use mp_term::Signature;

@@ -1,8 +1,8 @@
 //! The steps of a token in the innermost open operation.
-ghost use Rattle.std.specs.Prelude.{◌≡◌, ◌≤◌, ◌<◌, ◌+◌, ◌-◌, ◌^◌, ◌&&◌, [], ◌∷◌, ℕ, List, length, None, false};
+ghost use Rattle.std.specs.Prelude.{◌≡◌, ◌≤◌, ◌<◌, ◌+◌, ◌-◌, ◌^◌, ◌&&◌, [], ◌∷◌, List, length, None, false};
 ghost use Rattle.std.specs.Prelude.{IfSome, IsFalse, IsTrue, MatchBool, MatchOption, if◌then◌else◌};
 ghost use Rattle.mp_term.specs.NormalTest.{has_head};
-ghost use Rattle.mp_term.specs.Signature.{is_one, Sig};
+ghost use Rattle.mp_term.specs.Signature.{is_one};
 ghost use Rattle.mp_pattern.specs.NetTokens.{enter_token};
 ghost use Rattle.mp_pattern.specs.NetTokenView.{net_token};
 ghost use Rattle.mp_pattern.specs.Value.{Subst};

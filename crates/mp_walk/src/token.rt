@@ -8,9 +8,7 @@ ghost use Rattle.mp_pattern.specs.NetTokenView.{net_token};
 ghost use Rattle.mp_pattern.specs.PatternTree.{Wildcard, is_sequence};
 ghost use Rattle.mp_table.specs.Table.{HasRank, HasRanks, term_at, terms_at};
 ghost use Rattle.mp_theory.specs.Solve as solve;
-ghost use Rattle.mp_pattern.specs.Fits.{is_left_out};
 ghost use Rattle.mp_walk.specs.OpenOnes.{above};
-ghost use Rattle.mp_walk.specs.TokenMachine.{numbered_wildcard};
 
 use mp_pattern::{NetToken, is_assoc_above, meets_count};
 use mp_table::{Head, Rank, Table};
@@ -39,14 +37,6 @@ pub(crate) fn is_sequence(token: &NetToken) -> bool
         token,
         NetToken::Plus(_) | NetToken::Star(_) | NetToken::Counted(_, _, _)
     )
-}
-
-// It is an optional wildcard, which may be left out.
-pub(crate) fn is_optional(token: &NetToken) -> bool
-    ensures { (w : Wildcard) (x : Option ℕ) → net_token token.now ≡ wild_token w x
-        → result ≡ is_left_out (numbered_wildcard w x) [] }
-{
-    matches!(token, NetToken::Opt(_, _))
 }
 
 // A number of terms that the wildcard takes at least.

@@ -10,7 +10,7 @@ use Rattle.mp_ac.specs.Numbered.{numbered_subst}
 use Rattle.mp_walk.specs.Trails.{shape_of, number_of}
 use Rattle.mp_walk.specs.Ways.{front_entry, way_steps}
 use Rattle.mp_walk.proofs.ListLaws.{below_or_at, below_or_not}
-use Rattle.mp_walk.proofs.WayLaws.{wild-plain}
+use Rattle.mp_walk.proofs.WayLaws.{wild-collapsed}
 use Rattle.mp_walk.proofs.front.take_front.Goals as goal
 
 pub returns-then-is_barred-clause-way : goal.returns-then-is_barred-clause-way
@@ -19,7 +19,7 @@ returns-then-is_barred-clause-way c fs n l =
     let f = open_of c.args.table.now c.args.frame.now in
     let s = numbered_subst c.args.table.now c.args.trail.now.stack in
     ap (λ j. way_steps c.args.sig.now f fs s j n) c.requires.wild
-    ∙ wild-plain c.args.sig.now f fs s (shape_of k) (number_of k)
+    ∙ wild-collapsed c.args.sig.now f fs s (shape_of k) (number_of k)
     (sym (c.is_barred.ensures c.args.table.now) ∙ c.if-is_barred.true) n
 
 pub take_exactly-requires-clause-open : goal.take_exactly-requires-clause-open
