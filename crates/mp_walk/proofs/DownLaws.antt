@@ -3,7 +3,9 @@ use Rattle.std.proofs.Common.{◌≡◌, ◌≤◌, ◌<◌, ◌+◌, ◌-◌, �
 use Rattle.std.proofs.Common.{false, ◌&&◌, not, refl, ap, sym, ◌∙◌, subst, arith}
 use Rattle.std.specs.Prelude.{Option, Some, None, IsSome, IfSome, is_none, is_some, slice_get, if◌then◌else◌}
 use Rattle.std.specs.Prelude.{nat_lt}
+use Rattle.std.specs.List.{AllByRecursion}
 use Rattle.std.proofs.lemmas.List.{append_assoc, map-append}
+use Rattle.mp_term.proofs.ListLaws.{all-append}
 use Rattle.mp_term.specs.Listing.{In}
 use Rattle.mp_term.specs.Signature.{Sig}
 use Rattle.mp_pattern.specs.Fits.{Entry, Table}
@@ -21,7 +23,7 @@ use Rattle.mp_walk.specs.declared.setting.Setting.{Setting}
 use Rattle.mp_walk.specs.CodeForest.{leaf}
 use Rattle.mp_walk.specs.Course.{Alike, Read, read_to_come, reads_to_come, table_read, walk_from}
 use Rattle.mp_walk.specs.Chained.{IsChained}
-use Rattle.mp_walk.specs.CourseView.{AreChained, LeadsTo, IsLeftBehind, IsTakenBehind}
+use Rattle.mp_walk.specs.CourseView.{AreChained, LeadsTo, IsLeftBehind, IsMarked, IsTakenBehind}
 use Rattle.mp_walk.specs.Forests.{put_out}
 use Rattle.mp_walk.specs.Instrs.{Instr, instr_at}
 use Rattle.mp_walk.specs.Levels.{read_of, state_of, step_cost, trail_before, HasRoom, AreLevels}
@@ -39,7 +41,7 @@ use Rattle.mp_walk.specs.CourseView.{last_instr, IsCourse}
 use Rattle.std.proofs.Common.{Vec, Global}
 use Rattle.mp_walk.specs.SoundTokens.{IsSoundToken}
 use Rattle.mp_walk.proofs.CourseLaws.{down-to_come, table_read-more, reads_to_come-more}
-use Rattle.mp_walk.proofs.LevelLaws.{level-kept, levels-kept, levels-more, read-kept, reads-kept}
+use Rattle.mp_walk.proofs.LevelLaws.{level-kept, levels-kept, levels-more, marked-same, read-kept, reads-kept}
 use Rattle.mp_walk.proofs.LoadLaws.{load-step}
 use Rattle.mp_walk.proofs.OpenLaws.{opens-append}
 use Rattle.mp_walk.proofs.PathLaws.{token-sound}
@@ -399,12 +401,44 @@ module _ {x : Setting} {fs : List Frame} {u : Trail} {ls : List Level} {before :
         ∙ total-more (read_visits sig code) old_reads own in
         omega (arith, taken, alike, more)
 
+-- a step of a token is taken, whether it is then said to be ended or not
+pub taken-marked : {x : Setting} {fs : List Frame} {u : Trail} {ls : List Level} {before : Read} {l : Level} {i : Instr}
+    → IsTakenBehind x fs u ls before l i → (b : Bool) → IsTakenBehind x fs u ls before (record l { ended = b }) i
+taken-marked T b = record {
+  standing = record {
+    setting = T.standing.setting;
+    frames = T.standing.frames;
+    trail = T.standing.trail;
+    levels = T.standing.levels;
+    last = record {
+      instr = T.standing.last.instr;
+      place = T.standing.last.place;
+      room = T.standing.last.room;
+      searched = T.standing.last.searched;
+      way = T.standing.last.way;
+    };
+    places = T.standing.places;
+    marks = T.standing.marks;
+    chained = T.standing.chained;
+    owed = T.standing.owed;
+    ended = T.standing.ended;
+  };
+  instr = T.instr;
+  same = T.same;
+  state = T.state;
+  step = T.step;
+  owned = T.owned;
+  valid = T.valid;
+  lies = T.lies;
+  places = T.places;
+}
+
 -- the course below the token
 module _ {x : Setting} {fs : List Frame} {u : Trail} {ls : List Level} {before : Read} {l : Level} {i : Instr}
     (T : IsTakenBehind x fs u ls before l i) {place : ℕ} (at : l.place ≡ Some place) where
   pub down-course : (o : Option ℕ) (frames : Vec Frame Global) (more : List Frame) (made : frames.items ≡ fs ++ more)
       (is : opens x.table.now frames.items o ≡ opens_after i.token (opens x.table.now fs (Some place)) (l.next - 1))
-      → IsPlaceBelow (length frames.items) o → AreFrames x.sig.now x.table.now frames.items
+      → IsPlaceBelow (length frames.items) o → AreFrames x.sig.now x.table.now frames.items → IsMarked x fs u l
       → (levels : Vec Level Global) → levels.items ≡ ls ++ l ∷ [] → (alloc : Global)
       → (store : CommStore) → IsStoreOf x.table.now x.code.now.plans.plans store
       → IsCourse (record {
@@ -417,7 +451,7 @@ module _ {x : Setting} {fs : List Frame} {u : Trail} {ls : List Level} {before :
         place = o;
         target = i.down;
       })
-  down-course o frames more made is below are levels ks alloc store S = record {
+  down-course o frames more made is below are marked levels ks alloc store S = record {
     setting = T.standing.setting;
     frames = are;
     place = below;
@@ -430,4 +464,8 @@ module _ {x : Setting} {fs : List Frame} {u : Trail} {ls : List Level} {before :
     chained = subst (λ ms. AreChained x T.standing.setting.walkable.before frames.items u ms
         (LeadsTo T.standing.setting.walkable.before i.down) (state_of x.table.now frames.items o u)) (sym ks)
         (down-chained T at o frames.items more made is);
+    ended = subst (AllByRecursion (IsMarked x frames.items u)) (sym ks)
+        (marked-same x fs frames.items u u (ls ++ l ∷ [])
+        (reads-more T at o frames.items more made is ∙ sym (map-append (read_of x.table.now fs u) ls (l ∷ [])))
+        (all-append (IsMarked x fs u) ls (l ∷ []) T.standing.ended (marked, tt)));
   }

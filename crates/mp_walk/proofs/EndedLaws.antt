@@ -1,10 +1,12 @@
 -- What holds of the tokens before one of which nothing is left, and beside which nothing stands.
 use Rattle.std.proofs.Common.{◌≡◌, ℕ, List, [], ◌∷◌, ◌++◌, map, length, refl, ap, sym, ◌∙◌, subst, arith}
 use Rattle.std.specs.Prelude.{◌≤◌, Bool, true, false, not, is_some, Option, Some, None, Result, Ok, Err, IfOk}
+use Rattle.std.specs.List.{AllByRecursion}
 use Rattle.std.proofs.lemmas.List.{map-append}
 use Rattle.mp_pattern.specs.Fits.{Table}
 use Rattle.mp_subst.specs.Trail.{Trail, length_at}
 use Rattle.mp_term.specs.declared.memory.Memory.{Memory}
+use Rattle.mp_term.proofs.ListLaws.{all-split}
 use Rattle.mp_walk.specs.declared.course.Course.{Course}
 use Rattle.mp_walk.specs.declared.course.Turn.{Turn}
 use Rattle.mp_walk.specs.declared.course.Turn.TheVariants.{On, Found, Ended}
@@ -14,7 +16,7 @@ use Rattle.mp_walk.specs.declared.setting.Setting.{Setting}
 use Rattle.mp_walk.specs.Chained.{IsChained}
 use Rattle.mp_walk.specs.Below.{below_ahead}
 use Rattle.mp_walk.specs.Course.{IsEnded, is_comm_token, reads_to_come, steps_left, table_read, walk_from}
-use Rattle.mp_walk.specs.CourseView.{reads_of, course_of, course_to_come, IsCourse, StandsBehind}
+use Rattle.mp_walk.specs.CourseView.{reads_of, course_of, course_to_come, IsCourse, IsMarked, StandsBehind}
 use Rattle.mp_walk.specs.CourseVisits.{course_visits, read_visits, visits_behind, visits_from, IsFewer}
 use Rattle.mp_walk.specs.Instrs.{Instr, instr_at}
 use Rattle.mp_walk.specs.Levels.{read_of, search_of, state_of, trail_before, AreLevels}
@@ -74,6 +76,8 @@ module _ (x : Setting) (fs : List Frame) (u : Trail) where
         marks = (let a = p.marks in let b = S.marks in omega (arith, a, b));
         chained = h.0;
         owed = h.1;
+        ended = (all-split (IsMarked x fs u) ms (m ∷ [])
+            (subst (AllByRecursion (IsMarked x fs u)) split S.ended)).0;
       }
 
   -- what is to come of the last token and of those before it
@@ -152,15 +156,18 @@ module _ (x : Setting) (fs : List Frame) (u : Trail) where
         ≤ n)
     last-standing = (standing ls l split, last-reads, last-visits)
 
-    -- where it is ended, all that is to come is that of those before it
-    pub ended-before : IsEnded x.sig.now x.code.now.instrs (read_of x.table.now fs u l) → AreStanding ls
+    -- where it is said to be ended, all that is to come is that of those before it
+    pub ended-before : AllByRecursion (IsMarked x fs u) all → l.ended ≡ true → AreStanding ls
         × (reads_to_come x.sig.now x.code.now.instrs [] (map (read_of x.table.now fs u) ls) ≡ to_come)
         × (total (map (read_visits x.sig.now x.code.now.instrs) (map (read_of x.table.now fs u) ls)) ≤ n)
-    ended-before ended =
-        let S = standing ls l split in (
+        × AllByRecursion (IsMarked x fs u) ls
+    ended-before marked said =
+        let S = standing ls l split in
+        let m = all-split (IsMarked x fs u) ls (l ∷ []) (subst (AllByRecursion (IsMarked x fs u)) split marked) in (
           standing-before ls l S,
-          sym (ended-reads ls l S ended) ∙ last-reads,
+          sym (ended-reads ls l S (m.1.0 said)) ∙ last-reads,
           (let h = last-visits in omega (arith, h)),
+          m.0,
         )
 
 module _ (c : Course) (C : IsCourse c) (e : c.target ≡ None) where
@@ -181,6 +188,8 @@ module _ (c : Course) (C : IsCourse c) (e : c.target ≡ None) where
         marks = p.marks;
         chained = h.0;
         owed = h.1;
+        ended = (all-split (IsMarked c.set c.frames.items c.trail) ms (m ∷ [])
+            (subst (AllByRecursion (IsMarked c.set c.frames.items c.trail)) split C.ended)).0;
       }
 
   -- what is to come is that of them

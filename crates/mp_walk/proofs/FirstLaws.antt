@@ -56,6 +56,7 @@ module _ {x : Setting} {fs : List Frame} {v : Trail} {ls : List Level} {b : Read
 abbrev pub new_level : Course → ℕ → Mark → Level
 new_level c n mark = record {
   instr = n;
+  ended = false;
   place = c.place;
   frames = length c.frames.items;
   mark = mark;

@@ -191,4 +191,5 @@ module _ (c : Course) (C : IsCourse c) where
       marks = omega (arith, mark);
       chained = new-chained;
       owed = new-owed next search;
+      ended = C.ended;
     }

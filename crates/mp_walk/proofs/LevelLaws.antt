@@ -1,12 +1,15 @@
 -- Levels of a walk, as places and entries are added and cut off.
 use Rattle.std.proofs.Common.{◌≡◌, ◌≤◌, ℕ, List, [], ◌∷◌, ◌++◌, map, refl, ap, sym, ◌∙◌, subst}
 use Rattle.std.proofs.Common.{arith}
+use Rattle.std.specs.List.{AllByRecursion}
 use Rattle.std.specs.Prelude.{Option, Some, None}
 use Rattle.mp_subst.specs.Trail.{Trail, length_at, cut}
 use Rattle.mp_walk.specs.Rooms.{target_room}
 use Rattle.mp_walk.specs.declared.frame.Frame.{Frame}
 use Rattle.mp_walk.specs.declared.level.Level.{Level}
 use Rattle.mp_walk.specs.declared.setting.Setting.{Setting}
+use Rattle.mp_walk.specs.Course.{IsEnded}
+use Rattle.mp_walk.specs.CourseView.{IsMarked}
 use Rattle.mp_walk.specs.Levels.{search_of}
 use Rattle.mp_walk.specs.Levels.{read_of, trail_before, HasRoom, first_frames, first_mark, IsLevel, AreLevels}
 use Rattle.mp_walk.specs.Levels.{HasSearch}
@@ -131,3 +134,15 @@ module _ (x : Setting) where
         let r = first-below fs u (l ∷ ls) places marks h in
         ap (λ m. m ∷ map (read_of x.table.now gs v) ls) (read-kept l r.0 r.1 h.0.place)
         ∙ ap (λ ms. read_of x.table.now fs u l ∷ ms) (reads-kept ls h.3)
+
+  -- what is said of tokens holds of tokens that read the same
+  pub marked-same : (fs gs : List Frame) (u v : Trail) (ls : List Level)
+      → map (read_of x.table.now gs v) ls ≡ map (read_of x.table.now fs u) ls
+      → AllByRecursion (IsMarked x fs u) ls → AllByRecursion (IsMarked x gs v) ls
+  marked-same fs gs u v [] same h = tt
+  marked-same fs gs u v (l ∷ ls) same h =
+      let first : read_of x.table.now gs v l ≡ read_of x.table.now fs u l = cc in
+      let rest : map (read_of x.table.now gs v) ls ≡ map (read_of x.table.now fs u) ls = cc in (
+        λ said. subst (IsEnded x.sig.now x.code.now.instrs) (sym first) (h.0 said),
+        marked-same fs gs u v ls rest h.1,
+      )

@@ -108,6 +108,7 @@ module _ (c : Course) (C : IsCourse c) (n : ℕ) (e : c.target ≡ Some n) (i : 
             [] (begin_state (subject_of c.set.table.now)) (reads_of c) p p C.chained (alike-same p p refl)
             (λ path h. if-some (λ m. before m ≡ path) i.over
             (λ m g. C.setting.walkable.paths.over n m i held g ∙ subst (λ o. LeadsTo before o path) e h));
+        ended = C.ended;
       }
 
   pub passed-to_come : course_to_come passed ≡ course_to_come c

@@ -32,7 +32,7 @@ use Rattle.mp_walk.specs.WalkView.{subject_of}
 use Rattle.mp_walk.proofs.ChainLaws.{alike-same, chain-end, owed-taken, owed-none}
 use Rattle.mp_ac.specs.Numbered.{numbered_subst, IsTrailOf, LiesOver}
 use Rattle.mp_walk.proofs.CourseLaws.{over-to_come}
-use Rattle.mp_walk.proofs.LevelLaws.{level-kept, levels-kept, reads-kept, read-kept}
+use Rattle.mp_walk.proofs.LevelLaws.{level-kept, levels-kept, marked-same, reads-kept, read-kept}
 use Rattle.mp_table.specs.Table.{rank_of}
 use Rattle.mp_walk.specs.CodeConstants.{token_constants}
 use Rattle.std.specs.List.{AllByRecursion}
@@ -203,6 +203,7 @@ module _ (x : Setting) (fs : List Frame) (u : Trail) (ls : List Level) (l : Leve
             (cut-within (length_at l.mark) u v S.marks same);
         chained = kept-chained;
         owed = owed;
+        ended = marked-same x fs (take l.frames fs) u v ls kept-reads S.ended;
       }
 
   -- a trail that lies over what the trail was before the token

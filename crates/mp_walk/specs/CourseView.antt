@@ -1,5 +1,7 @@
 -- What the course of a walk is read as, and what holds of it.
 use Rattle.std.specs.Prelude.{◌≡◌, ◌≤◌, ◌-◌, ℕ, true, List, [], ◌∷◌, ◌++◌, length, map, Option, Some, IsSome, IfSome}
+use Rattle.std.specs.Prelude.{IsTrue}
+use Rattle.std.specs.List.{AllByRecursion}
 use Rattle.mp_term.specs.Listing.{In}
 use Rattle.mp_pattern.specs.Fits.{Table}
 use Rattle.mp_ac.specs.Store.{IsStoreOf}
@@ -13,7 +15,7 @@ use Rattle.mp_walk.specs.declared.level.Level.{Level}
 use Rattle.mp_walk.specs.Chained.{IsChained, IsOwed}
 use Rattle.mp_walk.specs.Course as plain
 use Rattle.mp_walk.specs.Course.{Read, read_to_come, reads_to_come, table_read, to_come_in, steps_left}
-use Rattle.mp_walk.specs.Course.{IsWayValid, IsStepTaken}
+use Rattle.mp_walk.specs.Course.{IsEnded, IsWayValid, IsStepTaken}
 use Rattle.mp_walk.specs.Instrs.{Instr, instr_at}
 use Rattle.mp_walk.specs.Levels.{read_of, state_of, step_cost, trail_before, HasRoom, IsLevel, AreLevels}
 use Rattle.mp_walk.specs.OpenOnes.{IsPlaceBelow, AreFrames, opens}
@@ -66,8 +68,13 @@ AreChained x before fs u ls Then s =
 abbrev pub LeadsTo : (ℕ → Path) → Option ℕ → Path → Type 0
 LeadsTo before target path = IfSome target (λ n. before n ≡ path)
 
+-- a token that is said to be ended is so
+abbrev pub IsMarked : Setting → List Frame → Trail → Level → Type 0
+IsMarked x fs u l = IsTrue l.ended → IsEnded x.sig.now x.code.now.instrs (read_of x.table.now fs u l)
+
 -- the frames, the levels and the trail fit together, and the store is of the table; the instruction that is to be
--- tried is there; the trail has room for what comes; and the tokens that are read lead to it
+-- tried is there; the trail has room for what comes; the tokens that are read lead to it; and those that are said to be
+-- ended are so
 pub record IsCourse (c : Course) : Type 0 where
   pub setting : IsSetting c.set
   pub frames : AreFrames c.set.sig.now c.set.table.now c.frames.items
@@ -80,6 +87,7 @@ pub record IsCourse (c : Course) : Type 0 where
   pub room : HasRoom (target_room c.set.code.now.instrs c.target) (opens c.set.table.now c.frames.items c.place) c.trail
   pub chained : AreChained c.set setting.walkable.before c.frames.items c.trail c.levels.items
       (LeadsTo setting.walkable.before c.target) (course_of c).present
+  pub ended : AllByRecursion (IsMarked c.set c.frames.items c.trail) c.levels.items
 
 -- an item is found: only the root is open, and it is done
 abbrev pub IsAtItem : Course → Type 0
@@ -87,7 +95,7 @@ IsAtItem c = IsCourse c × (token_ends (course_of c).present ≡ true)
 
 module _ (x : Setting) (fs : List Frame) (u : Trail) (ls : List Level) where
   -- a token is to be read on, which isn't one of the levels: it comes after them, and the steps of it that are left are
-  -- steps of it
+  -- steps of it; the levels that are said to be ended are so
   pub record StandsBehind (l : Level) : Type 0 where
     pub setting : IsSetting x
     pub frames : AreFrames x.sig.now x.table.now fs
@@ -99,6 +107,7 @@ module _ (x : Setting) (fs : List Frame) (u : Trail) (ls : List Level) where
     pub chained : AreChained x setting.walkable.before fs u ls (λ path. setting.walkable.before l.instr ≡ path)
         (state_of x.table.now fs l.place (trail_before u l))
     pub owed : IsOwed x.sig.now x.code.now.instrs (read_of x.table.now fs u l)
+    pub ended : AllByRecursion (IsMarked x fs u) ls
 
   -- no step of the token is left, and what was added for it is taken back
   pub record IsLeftBehind (l : Level) (i : Instr) : Type 0 where

@@ -12,6 +12,7 @@ ghost use Rattle.mp_walk.specs.CourseVisits.{course_visits, token_visits, IsFewe
 ghost use Rattle.mp_walk.specs.Entries.{IsEntryAt};
 ghost use Rattle.mp_walk.specs.Forests.{put_out, walk};
 ghost use Rattle.mp_walk.specs.InstrView.{plain_instr};
+ghost use Rattle.mp_walk.specs.Instrs.{instr_at};
 ghost use Rattle.mp_walk.specs.Levels.{read_of};
 ghost use Rattle.mp_walk.specs.TokenMachine.{token_steps, token_ends, begin_state};
 ghost use Rattle.mp_walk.specs.Setting.{IsSetting};
@@ -126,6 +127,24 @@ impl<'a> Course<'a> {
         self.target = instr.over;
     }
 
+    // Nothing is left of a token that is read, as is told without the trail, and nothing stands beside it.
+    #[inline(always)]
+    fn is_ended(&self, level: &Level<'a>, instr: &Instr) -> bool
+        requires standing { IsStanding self.now level.now }
+        requires instr { instr_at self.now.set.code.now.instrs level.now.instr ≡ Some (plain_instr instr.now) }
+        ensures { IsTrue result → IsEnded self.now.set.sig.now self.now.set.code.now.instrs
+            (read_of self.now.set.table.now self.now.frames.items self.now.trail level.now) }
+    {
+        instr.over.is_none()
+            && is_spent(
+                self.set,
+                &self.frames,
+                level.place,
+                &instr.token,
+                level.next,
+            )
+    }
+
     // Goes on below a token whose step is taken.
     #[inline(always)]
     fn go_down(&mut self, level: Level<'a>, instr: &Instr) -> Result<Turn, Memory>
@@ -144,6 +163,8 @@ impl<'a> Course<'a> {
         };
         let Setting { sig, table, .. } = self.set;
         let way = level.next.saturating_sub(1);
+        let mut level = level;
+        level.ended = self.is_ended(&level, instr);
         self.levels.push(level)?;
         self.frames.reserve(2)?;
         self.place = opened(sig, table, &instr.token, place, way, &mut self.frames);
@@ -197,6 +218,7 @@ impl<'a> Course<'a> {
     {
         let level = Level {
             instr: number,
+            ended: false,
             place: self.place,
             frames: self.frames.len(),
             mark: self.trail.mark(),
@@ -233,6 +255,7 @@ impl<'a> Course<'a> {
         };
         let level = Level {
             instr: number,
+            ended: false,
             place: self.place,
             frames: self.frames.len(),
             mark,
@@ -240,26 +263,6 @@ impl<'a> Course<'a> {
             search: None,
         };
         self.go_down(level, instr)
-    }
-
-    // Nothing is left of a token that is read, as is told without the trail, and nothing stands beside it.
-    fn is_ended(&self, level: &Level<'a>) -> bool
-        requires { IsStanding self.now level.now }
-        ensures { IsTrue result → IsEnded self.now.set.sig.now self.now.set.code.now.instrs
-            (read_of self.now.set.table.now self.now.frames.items self.now.trail level.now) }
-    {
-        let Setting { code, .. } = self.set;
-        let Some(instr) = code.instr(level.instr) else {
-            unreachable!()
-        };
-        instr.over.is_none()
-            && is_spent(
-                self.set,
-                &self.frames,
-                level.place,
-                &instr.token,
-                level.next,
-            )
     }
 
     // The last token that is read of which something may be left, or beside which something stands. Those behind it are
@@ -276,7 +279,7 @@ impl<'a> Course<'a> {
         ensures setting { self.new.set ≡ self.old.set }
     {
         while let Some(level) = self.levels.pop() {
-            if !self.is_ended(&level) {
+            if !level.ended {
                 return Some(level);
             }
         }

@@ -86,6 +86,7 @@ returns-in-Some-way_from-clause-step c =
     ap (λ n. cut n c.way_from.new.trail) long ∙ c.in-Some-way_from.ensures.kept.cut ∙ c.undo.ensures.trail in
     step-taken sig k (read_of t fs c.args.trail.now l) (read_of t fs c.way_from.new.trail (record {
       instr = l.instr;
+      ended = l.ended;
       place = l.place;
       frames = l.frames;
       mark = l.mark;

@@ -2,11 +2,12 @@ use Rattle.std.proofs.Common.{◌≡◌, ◌<◌, ℕ, List, [], ◌∷◌, ◌+
 use Rattle.std.proofs.Common.{subst}
 use Rattle.std.proofs.Common.{arith}
 use Rattle.std.specs.Prelude.{Some}
+use Rattle.std.specs.List.{AllByRecursion}
 use Rattle.std.proofs.lemmas.List.{append-nil}
 use Rattle.mp_term.specs.Size.{node_count}
 use Rattle.mp_table.specs.Table.{term_at}
 use Rattle.mp_walk.specs.declared.frame.Frame.{Frame}
-use Rattle.mp_walk.specs.CourseView.{AreChained, LeadsTo}
+use Rattle.mp_walk.specs.CourseView.{AreChained, IsMarked, LeadsTo}
 use Rattle.mp_walk.specs.Course.{table_read, reads_to_come, walk_from}
 use Rattle.mp_walk.specs.Levels.{read_of, state_of, HasRoom, AreLevels}
 use Rattle.mp_walk.specs.OpenOnes.{AreFrames}
@@ -90,6 +91,8 @@ returns-clause-course c =
                 (sym state),
             begin-first x.sig.now x.code.now.instrs w o c.first_target-target.ensures,
           );
+      ended = subst (AllByRecursion (IsMarked x c.push.new.self.items c.in_ok-trail.trail))
+          (sym c.in_ok-levels.ensures.items) tt;
     }
 
 pub returns-clause-to_come : goal.returns-clause-to_come

@@ -7,7 +7,7 @@ use Rattle.mp_walk.specs.Course.{opens_after, IsWayValid}
 use Rattle.mp_walk.specs.Levels.{state_of}
 use Rattle.mp_walk.specs.OpenOnes.{AreFrames, open_of, opens}
 use Rattle.mp_walk.proofs.DownLaws.{down-valid, down-sound, down-course, down-found}
-use Rattle.mp_walk.proofs.DownLaws.{down-on, down-less, put-ends}
+use Rattle.mp_walk.proofs.DownLaws.{down-on, down-less, put-ends, taken-marked}
 use Rattle.mp_walk.proofs.course.Course.go_down.Goals as goal
 use Rattle.mp_walk.proofs.course.Course.go_down.Goals.{After-opened-self}
 
@@ -31,6 +31,12 @@ module _ (c : After-opened-self) where
       c.in_ok-reserve.ensures.items
       ∙ ap (opens_after k (opens t self.frames.items (Some c.in-Some.place))) c.saturating_sub-way.ensures
 
+pub is_ended-requires-clause-standing : goal.is_ended-requires-clause-standing
+is_ended-requires-clause-standing c = c.requires.taken.1.standing
+
+pub is_ended-requires-clause-instr : goal.is_ended-requires-clause-instr
+is_ended-requires-clause-instr c = c.requires.taken.1.instr
+
 pub opened-self-requires-clause-frames : goal.opened-self-requires-clause-frames
 opened-self-requires-clause-frames c =
     subst (AreFrames c.args.self.now.set.sig.now c.args.self.now.set.table.now)
@@ -49,8 +55,9 @@ opened-self-requires-clause-valid c = λ f e.
 pub accepts-requires : goal.accepts-requires
 accepts-requires c =
     let known = (goal.at.accepts-requires c).After-opened-self in
-    down-course c.requires.taken.1 c.in-Some.is _ c.opened-self.new.frames _ (made known) (opened known)
-    c.opened-self.ensures.place c.opened-self.ensures.frames c.push.new.self c.in_ok-push.ensures.items
+    down-course (taken-marked c.requires.taken.1 c.is_ended.result) c.in-Some.is _ c.opened-self.new.frames _
+    (made known) (opened known) c.opened-self.ensures.place c.opened-self.ensures.frames c.is_ended.ensures
+    c.push.new.self c.in_ok-push.ensures.items
     c.args.self.now.alloc c.args.self.now.store c.requires.store
 
 pub returns-then-accepts-clause-turn : goal.returns-then-accepts-clause-turn
@@ -58,34 +65,40 @@ returns-then-accepts-clause-turn c = λ before T.
     let n = c.args.level.instr in
     let known = (goal.at.returns-then-accepts-clause-turn c).After-opened-self in (
       (
-        down-course T c.in-Some.is _ c.opened-self.new.frames _ (made known) (opened known)
-            c.opened-self.ensures.place c.opened-self.ensures.frames c.push.new.self c.in_ok-push.ensures.items
+        down-course (taken-marked T c.is_ended.result) c.in-Some.is _ c.opened-self.new.frames _ (made known)
+            (opened known) c.opened-self.ensures.place c.opened-self.ensures.frames c.is_ended.ensures
+            c.push.new.self c.in_ok-push.ensures.items
             c.args.self.now.alloc c.args.self.now.store c.requires.store,
         put-ends c.args.self.now.set.sig.now n c.args.instr.now.accepts
             (state_of c.args.self.now.set.table.now c.opened-self.new.frames.items c.opened-self.result
             c.args.self.now.trail) []
             (c.accepts.ensures n [] ∙ ap (λ r. if r then (n, []) ∷ [] else []) c.if-accepts.true),
       ),
-      down-found T c.in-Some.is _ _ _ (made known) (opened known) c.push.new.self.items c.in_ok-push.ensures.items
+      down-found (taken-marked T c.is_ended.result) c.in-Some.is _ _ _ (made known) (opened known)
+          c.push.new.self.items c.in_ok-push.ensures.items
           (λ n b. c.accepts.ensures n b ∙ ap (λ r. if r then (n, b) ∷ [] else []) c.if-accepts.true),
     )
 
 pub returns-else-accepts-clause-turn : goal.returns-else-accepts-clause-turn
 returns-else-accepts-clause-turn c = λ before T.
     let known = (goal.at.returns-else-accepts-clause-turn c).After-opened-self in (
-      down-course T c.in-Some.is _ c.opened-self.new.frames _ (made known) (opened known)
-          c.opened-self.ensures.place c.opened-self.ensures.frames c.push.new.self c.in_ok-push.ensures.items
+      down-course (taken-marked T c.is_ended.result) c.in-Some.is _ c.opened-self.new.frames _ (made known)
+          (opened known) c.opened-self.ensures.place c.opened-self.ensures.frames c.is_ended.ensures c.push.new.self
+          c.in_ok-push.ensures.items
           c.args.self.now.alloc c.args.self.now.store c.requires.store,
-      down-on T c.in-Some.is _ _ _ (made known) (opened known) c.push.new.self.items c.in_ok-push.ensures.items
+      down-on (taken-marked T c.is_ended.result) c.in-Some.is _ _ _ (made known) (opened known) c.push.new.self.items
+          c.in_ok-push.ensures.items
           (λ n b. c.accepts.ensures n b ∙ ap (λ r. if r then (n, b) ∷ [] else []) c.if-accepts.false),
     )
 
 pub returns-then-accepts-clause-less : goal.returns-then-accepts-clause-less
 returns-then-accepts-clause-less c = λ before T.
     let known = (goal.at.returns-then-accepts-clause-less c).After-opened-self in
-    down-less T c.in-Some.is _ _ _ (made known) (opened known) c.push.new.self.items c.in_ok-push.ensures.items
+    down-less (taken-marked T c.is_ended.result) c.in-Some.is _ _ _ (made known) (opened known) c.push.new.self.items
+    c.in_ok-push.ensures.items
 
 pub returns-else-accepts-clause-less : goal.returns-else-accepts-clause-less
 returns-else-accepts-clause-less c = λ before T.
     let known = (goal.at.returns-else-accepts-clause-less c).After-opened-self in
-    down-less T c.in-Some.is _ _ _ (made known) (opened known) c.push.new.self.items c.in_ok-push.ensures.items
+    down-less (taken-marked T c.is_ended.result) c.in-Some.is _ _ _ (made known) (opened known) c.push.new.self.items
+    c.in_ok-push.ensures.items

@@ -13,6 +13,7 @@ returns-clause-course c = record {
   there = if-some _ c.args.instr.now.over (over-there c.requires.left);
   room = over-room c.requires.left;
   chained = over-chained c.requires.left;
+  ended = c.requires.left.standing.ended;
 }
 
 pub returns-clause-less : goal.returns-clause-less

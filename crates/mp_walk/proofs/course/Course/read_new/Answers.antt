@@ -1,5 +1,5 @@
 use Rattle.std.proofs.Common.{◌≡◌, length, refl, sym, subst, arith}
-use Rattle.std.specs.Prelude.{None, IfOk}
+use Rattle.std.specs.Prelude.{None, IfOk, false}
 use Rattle.mp_walk.specs.CourseView.{IsBroughtOn}
 use Rattle.mp_walk.specs.CourseVisits.{course_visits, IsFewer}
 use Rattle.mp_walk.proofs.LastLaws.{last-new, new-standing, visits-new}
@@ -11,6 +11,7 @@ read_on-requires-clause-standing c =
     let many : c.len.result ≡ length self.frames.items = omega (arith, c.len.ensures, self.frames.ok.0) in
     new-standing self c.requires.course c.args.number c.requires.target (record {
       instr = c.args.number;
+      ended = false;
       place = self.place;
       frames = c.len.result;
       mark = c.mark.result;
@@ -24,6 +25,7 @@ returns-clause-turn c =
     subst (λ is. IfOk c.read_on.result (λ turn. IsBroughtOn is turn c.read_on.new.self))
     (sym (last-new self c.requires.course c.args.number c.requires.target (record {
       instr = c.args.number;
+      ended = false;
       place = self.place;
       frames = c.len.result;
       mark = c.mark.result;
@@ -37,6 +39,7 @@ returns-clause-less c =
     subst (λ n. IfOk c.read_on.result (IsFewer (course_visits c.read_on.new.self) n))
     (sym (visits-new self c.requires.course c.args.number c.requires.target (record {
       instr = c.args.number;
+      ended = false;
       place = self.place;
       frames = c.len.result;
       mark = c.mark.result;
