@@ -3,7 +3,7 @@ use Rattle.std.proofs.Common.{◌≡◌, ◌≤◌, ◌<◌, ◌∙◌, ℕ, Lis
 use Rattle.std.proofs.Common.{zero, suc, ◌+◌, take, drop}
 use Rattle.std.specs.Prelude.{slice_get, slice_index_or}
 use Rattle.std.specs.List.{AllByRecursion}
-use Rattle.std.proofs.lemmas.List.{get_or_append_left, length-append, length-map, map-append}
+use Rattle.std.proofs.lemmas.List.{get_or_append_left, length-map, map-append}
 use Rattle.mp_pattern.specs.NetTokens.{NetToken, leave_token}
 use Rattle.mp_many.specs.declared.token.Token.{Token}
 use Rattle.mp_many.specs.declared.tokens.Kept.{Kept}
@@ -37,16 +37,6 @@ all_held-more few many (k ∷ ks) m h = (is_held-more few many k m h.0, all_held
 
 module _ (old new : List Token) (more : List NetToken) (kept : List Kept)
     (is : map read_token new ≡ map read_token old ++ more) (h : AllByRecursion (IsHeld (length old)) kept) where
-  -- those that are kept are held still
-  pub held-still : AllByRecursion (IsHeld (length new)) kept
-  held-still = all_held-more (length old) (length new) kept (omega (
-    arith,
-    ap length is,
-    length-append (map read_token old) more,
-    length-map old read_token,
-    length-map new read_token,
-  )) h
-
   -- one more is kept
   pub kept-next : (k : Kept) (t : NetToken) → read_kept (map read_token new) k ≡ t
       → kept_tokens new (kept ++ k ∷ []) ≡ kept_tokens old kept ++ t ∷ []

@@ -4,8 +4,8 @@ use Rattle.std.proofs.Common.{true, false, nat_eq, refl, ap, sym, ◌∙◌, sub
 use Rattle.std.specs.Prelude.{Option, Some, None, if◌then◌else◌, slice_get}
 use Rattle.std.specs.List.{AllByRecursion}
 use Rattle.std.proofs.lemmas.Bool.{eqb-true}
-use Rattle.std.proofs.lemmas.List.{length-take-le, map-append, nil_from_length, take-append-drop, take_more}
-use Rattle.mp_term.proofs.ListLaws.{all-append, all-split}
+use Rattle.std.proofs.lemmas.List.{length-take-le, map-append, nil_from_length, take-append-drop}
+use Rattle.mp_term.proofs.ListLaws.{all-split}
 use Rattle.mp_pattern.specs.NetTokens.{NetToken, same_token}
 use Rattle.mp_pattern.specs.NetTokenLaws.{same_token-itself}
 use Rattle.mp_walk.specs.Walkable.{Path}
@@ -85,14 +85,6 @@ module _ (lists : List Path) (place : ℕ) where
       ∙ ap (entered_all gs) (map-append _ (take count ns) (drop count ns))
       ∙ entered_all-append gs (left_at lists place (take count ns)) (left_at lists place (drop count ns))
       ∙ ap (λ hs. entered_all hs (left_at lists place (drop count ns))) (run gs o (take count ns) some a)
-
-  -- one list more goes on so
-  pub have-more : (count : ℕ) (o : Option NetToken) (ns : List ℕ) → count < length ns
-      → HaveAt lists place o (take count ns) → slice_get (get_or lists (get_or ns count 0) []) place ≡ o
-      → HaveAt lists place o (take (count + 1) ns)
-  have-more count o ns h a e =
-      subst (HaveAt lists place o) (sym (take_more ns count 0 h))
-      (all-append (λ n. slice_get (get_or lists n []) place ≡ o) (take count ns) (get_or ns count 0 ∷ []) a (e, tt))
 
 -- numbers that are left are those of lists
 pub within-drop : (lists : List Path) (count : ℕ) (ns : List ℕ) → AreWithin lists ns → AreWithin lists (drop count ns)

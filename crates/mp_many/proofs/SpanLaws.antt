@@ -1,9 +1,9 @@
 -- Lists of tokens that stand one behind the other.
 use Rattle.std.proofs.Common.{◌≡◌, ◌<◌, ◌≤◌, ◌∙◌, ℕ, zero, suc, ◌+◌, ◌-◌, List, [], ◌∷◌, ◌++◌, map, length, take, drop}
 use Rattle.std.proofs.Common.{append-nil, get_or, refl, ap, sym, subst, arith}
-use Rattle.std.specs.Prelude.{flat_map, slice_get}
+use Rattle.std.specs.Prelude.{flat_map}
 use Rattle.std.specs.List.{AllByRecursion}
-use Rattle.std.proofs.lemmas.List.{drop-append-le, get_or-map, length-append, length-drop, length-take-le, map-append}
+use Rattle.std.proofs.lemmas.List.{drop-append-le, length-append, length-drop, map-append}
 use Rattle.std.proofs.lemmas.List.{take-append-le}
 use Rattle.std.proofs.lemmas.Grind.{flat_map-append}
 use Rattle.std.proofs.Math.Seq.{drop-append_seam, take-length}
@@ -11,7 +11,6 @@ use Rattle.mp_pattern.specs.NetTokens.{NetToken}
 use Rattle.mp_many.specs.declared.lists.Span.{Span}
 use Rattle.mp_many.specs.Prefixes.{token_count}
 use Rattle.mp_many.specs.Spans.{list_in, IsSpan}
-use Rattle.mp_many.proofs.KeptLaws.{part-at}
 
 -- a span of several
 pub span-at : (count : ℕ) (spans : List Span) (n : ℕ) (s : Span) → AllByRecursion (IsSpan count) spans
@@ -21,21 +20,6 @@ span-at count (x ∷ xs) zero s h w e = subst (IsSpan count) (sym e) h.0
 span-at count (x ∷ xs) (suc n) s h w e = span-at count xs n s h.1 (omega (arith, w)) e
 
 module _ (ts : List NetToken) where
-  -- the list of a number
-  pub list-at : (spans : List Span) (n : ℕ) (s : Span) → n < length spans → s ≡ get_or spans n s
-      → get_or (map (list_in ts) spans) n [] ≡ list_in ts s
-  list-at spans n s w e = get_or-map (list_in ts) spans n s [] w ∙ ap (list_in ts) (sym e)
-
-  -- so many tokens it has
-  pub length-list : (s : Span) → IsSpan (length ts) s → length (list_in ts s) ≡ s.end - s.start
-  length-list s h =
-      length-take-le (s.end - s.start) (drop s.start ts) (omega (arith, length-drop s.start ts, h.0, h.1.0))
-
-  -- its token at a place
-  pub token-at : (s : Span) (place : ℕ) → place < s.end - s.start
-      → slice_get (list_in ts s) place ≡ slice_get ts (s.start + place)
-  token-at s place h = part-at ts s.start (s.end - s.start) place h
-
   -- it is the same where more tokens follow
   list-more : (more : List NetToken) (s : Span) → IsSpan (length ts) s → list_in (ts ++ more) s ≡ list_in ts s
   list-more more s h =
