@@ -156,6 +156,7 @@ pub(crate) fn way_from(
 }
 
 // No way of the token from the number on reads on in the open operation, as is told without the trail.
+#[inline(always)]
 fn has_no_way(
     sig: &Signature,
     table: &Table,
@@ -179,6 +180,7 @@ fn has_no_way(
 
 // No step of the token from the way of the number on is left in the operations that are open at the place, as is told
 // without the trail.
+#[inline(always)]
 pub(crate) fn is_spent(
     set: Setting<'_>,
     frames: &[Frame<'_>],
