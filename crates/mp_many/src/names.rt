@@ -46,61 +46,57 @@ impl RuleNames {
 }
 
 // How many of the names are read behind a wildcard's variable, where so many are before it: the variable is one of
-// those, or the next name. It is None where it is neither.
-fn read_variable(
-    names: &Names,
-    before: usize,
-    variable: &Option<Name>,
-) -> Result<Option<usize>, Memory>
+// those, or the next name. It is None where it is neither, or where a `u32` can't hold its number.
+fn read_variable(names: &Names, before: usize, variable: &Option<Name>) -> Option<usize>
     requires { before ≤ length names.now }
-    ensures within { IfOk result (λ o. IfSome o (λ n. n ≤ length names.now)) }
-    ensures read { IfOk result (λ o. IfSome o (λ n.
+    ensures within { IfSome result (λ n. n ≤ length names.now) }
+    ensures read { IfSome result (λ n.
         firsts_after same_name (take before names.now) (used_names (wild_pattern dot variable.now))
-        ≡ take n names.now)) }
+        ≡ take n names.now) }
 {
-    let Some(number) = variable_number(names, variable)? else {
-        return Ok(Some(before));
+    let Ok(found) = variable_number(names, variable) else {
+        return None;
+    };
+    let Some(number) = found else {
+        return Some(before);
     };
     let place = number as usize;
     if place < before {
-        return Ok(Some(before));
+        return Some(before);
     }
     if place == before && place < names.len() {
-        return Ok(Some(before + 1));
+        return Some(before + 1);
     }
-    Ok(None)
+    None
 }
 
 // So it is behind a pattern, whose variables first occur in the order of the names.
-fn read_names(names: &Names, before: usize, pattern: &Pattern) -> Result<Option<usize>, Memory>
+fn read_names(names: &Names, before: usize, pattern: &Pattern) -> Option<usize>
     requires { before ≤ length names.now }
-    ensures within { IfOk result (λ o. IfSome o (λ n. n ≤ length names.now)) }
-    ensures read { IfOk result (λ o. IfSome o (λ n.
-        firsts_after same_name (take before names.now) (used_names (pattern_tree pattern.now)) ≡ take n names.now)) }
+    ensures within { IfSome result (λ n. n ≤ length names.now) }
+    ensures read { IfSome result (λ n.
+        firsts_after same_name (take before names.now) (used_names (pattern_tree pattern.now)) ≡ take n names.now) }
 {
     match pattern {
-        Pattern::Sym(_) => Ok(Some(before)),
+        Pattern::Sym(_) => Some(before),
         Pattern::App(_, args) => {
             let mut read = before;
             for arg in args.as_slice() {
-                let Some(next) = read_names(names, read, arg)? else {
-                    return Ok(None);
-                };
-                read = next;
+                read = read_names(names, read, arg)?;
             }
-            Ok(Some(read))
+            Some(read)
         }
         Pattern::Wild(_, variable) => read_variable(names, before, variable),
     }
 }
 
 // The names are the variables of the pattern, in order.
-fn are_names(names: &Names, pattern: &Pattern) -> Result<bool, Memory>
-    ensures { IfOk result (λ b. IsTrue b → names.now ≡ variables (pattern_tree pattern.now)) }
+fn are_names(names: &Names, pattern: &Pattern) -> bool
+    ensures { IsTrue result → names.now ≡ variables (pattern_tree pattern.now) }
 {
-    match read_names(names, 0, pattern)? {
-        None => Ok(false),
-        Some(count) => Ok(count == names.len()),
+    match read_names(names, 0, pattern) {
+        None => false,
+        Some(count) => count == names.len(),
     }
 }
 
@@ -110,7 +106,7 @@ fn place_of(alloc: Global, lists: &mut Vec<Names>, pattern: &Pattern) -> Result<
     ensures place { IfOk result (λ n. slice_get lists.new.items n ≡ Some (variables (pattern_tree pattern.now))) }
 {
     let count = lists.len();
-    if count > 0 && are_names(&lists[count - 1], pattern)? {
+    if count > 0 && are_names(&lists[count - 1], pattern) {
         return Ok(count - 1);
     }
     lists.push(variable_names(alloc, pattern)?)?;

@@ -26,14 +26,14 @@ loop-arg-preserved t c =
     let args = c.as_slice-arg-items.result.now in
     let i = c.loop-arg.arg-index in
     let read = c.loop-arg.read in
-    let next = c.in-Some.next in
+    let next = c.in_ok-read-in-App.read in
     let own = used_names (pattern_tree c.arg-item.result) in
     let rest = all_used_names (patterns (map pattern_tree (drop (i + 1) args))) in
     let known : firsts_after same_name (take read names) own ≡ take next names =
-    subst (λ o. IfSome o (λ n. firsts_after same_name (take read names) own ≡ take n names)) c.in-Some.is
-    c.in_ok-next-in-App.ensures.read in
+    subst (λ o. IfSome o (λ n. firsts_after same_name (take read names) own ≡ take n names)) c.in_ok-read-in-App.was
+    c.read_names.ensures.read in
     record {
-      within = subst (λ o. IfSome o (λ n. n ≤ length names)) c.in-Some.is c.in_ok-next-in-App.ensures.within;
+      within = subst (λ o. IfSome o (λ n. n ≤ length names)) c.in_ok-read-in-App.was c.read_names.ensures.within;
       read = sym (read-then names read next own rest known)
           ∙ ap (λ ps. firsts_after same_name (take read names) (all_used_names (patterns (map pattern_tree ps))))
           (sym (drop-item args i c.arg-item.result c.loop-arg-test.true c.arg-item.is)) ∙ c.loop-arg.invariant.read;

@@ -16,5 +16,5 @@ returns-in-Some c h =
     let all : n ≡ length names = eqb-true n c.len.result h ∙ c.len.ensures in
     let read : firsts_after same_name [] (used_names p) ≡ take n names =
     subst (λ o. IfSome o (λ m. firsts_after same_name [] (used_names p) ≡ take m names)) c.in-Some.is
-    c.in_ok-read_names.ensures.read in
+    c.read_names.ensures.read in
     read-all names p n all read
