@@ -1,22 +1,10 @@
 -- Rules that are read without a tree of their pattern.
 use Rattle.std.specs.Prelude.{◌≡◌, List, [], ◌∷◌, ◌++◌, Option}
-use Rattle.mp_term.specs.Signature.{Sig}
-use Rattle.mp_pattern.specs.PatternTree.{Pattern}
 use Rattle.mp_parser.specs.Tokens.{Placed}
 use Rattle.mp_parser.specs.Syntax.{Spot, Tree, Condition, Statement, RuleOf}
 use Rattle.mp_parser.specs.Machine.{Top, AfterExpr, InStatement, OfRule, heading, run}
 use Rattle.mp_build.specs.Scope.{Variable}
 use Rattle.mp_build.specs.Wildcards.{PatternWildcard}
-use Rattle.mp_text.specs.ReadPattern.{IsWholePatternOf}
-
--- The front of a statement is passed, which gives a rule this name and a pattern that isn't too large and has no fault:
--- this one, with these wildcards.
-pub record IsRuleHeadRead (sig : Sig) (name : Spot) (p : Pattern) (ws : List PatternWildcard) (old new : List Placed)
-    : Type 0 where
-  pub expr : Tree
-  pub read : (done : List Statement)
-      → run done Top old ≡ run done (AfterExpr (InStatement (heading OfRule name)) [] expr) new
-  pub whole : IsWholePatternOf sig expr p ws
 
 -- what stands behind the pattern of a rule is passed: it gives the rule this template and this condition
 abbrev pub IsRuleEndRead : Option Tree → Option Condition → List Placed → List Placed → Type 0

@@ -13,10 +13,10 @@ ghost use Rattle.mp_text.specs.Reading.{IsFileOf};
 
 use crate::file::File;
 use crate::reader::{Draft, add_statement, draft_of};
-use crate::rule_reader::{add_head, read_rule_end, read_rule_head};
+use crate::rule_reader::add_next_rule;
 use crate::subject::{add_term, read_subject};
 use bumpalo::Bump;
-use mp_build::TextError;
+use mp_build::{TextError, if_faultless};
 use mp_parser::arena::Arena;
 use mp_parser::parser::Parser;
 use mp_syntax::{Statement, SyntaxError, read_statement};
@@ -32,11 +32,10 @@ pub(crate) fn read_in_order(alloc: Global, bytes: &[u8]) -> Result<Option<File>,
     requires { length bytes.now < 2 ^ 32 - 1 }
     ensures { IfOk result (λ o. IfSome o (λ f. IsFileOf bytes.now (file_tree f))) }
 {
-    match build_in_order(alloc, bytes) {
-        Ok(file) => Ok(file),
-        Err(TextError::Text(_)) => Ok(None),
-        Err(TextError::Memory) => Err(Memory),
-    }
+    let Some(file) = if_faultless(build_in_order(alloc, bytes))? else {
+        return Ok(None);
+    };
+    Ok(file)
 }
 
 // The same, but where something has a fault, that is answered; it need not be the first one.
@@ -91,9 +90,7 @@ fn add_next<'a>(
         add_term(alloc, draft, name, term)?;
         return Ok(true);
     }
-    if let Some(head) = read_rule_head(alloc, &draft.file.sig, parser)? {
-        let (template, condition) = read_rule_end(parser, arena)?;
-        add_head(alloc, draft, head, &template, &condition)?;
+    if add_next_rule(alloc, draft, parser, arena)? {
         return Ok(true);
     }
     let statement = read_statement(parser, arena)?;

@@ -4,6 +4,7 @@
 
 mod file;
 mod file_printer;
+mod heading;
 mod in_order;
 mod names;
 mod pattern_reader;

@@ -10,7 +10,7 @@ ghost use Rattle.mp_parser.specs.View.{spot_of, wildcard_of};
 ghost use Rattle.mp_build.specs.WildcardView.{wildcard_view};
 ghost use Rattle.mp_text.specs.ReadPattern.{IsPatternRead, AreArgumentPatternsRead, IsWholePatternRead};
 
-use mp_build::{PatternWildcard, TextError, build_wildcard, find_decl, symbol};
+use mp_build::{PatternWildcard, build_wildcard, find_decl, if_faultless, symbol};
 use mp_parser::parser::Parser;
 use mp_parser::token::{Kind, Punct};
 use mp_pattern::{MAX_VARIABLES, Pattern, Patterns};
@@ -103,11 +103,10 @@ fn read_wildcard<'a>(
     if parser.sees_default(&wild) || parser.sees_count(&wild) {
         return Ok(None);
     }
-    match build_wildcard(alloc, sig, wild, before) {
-        Ok(pattern) => Ok(Some(pattern)),
-        Err(TextError::Text(_)) => Ok(None),
-        Err(TextError::Memory) => Err(Memory),
-    }
+    let Some(pattern) = if_faultless(build_wildcard(alloc, sig, wild, before))? else {
+        return Ok(None);
+    };
+    Ok(Some(pattern))
 }
 
 /// Reads what stands behind a name: the arguments of an operation in brackets, or nothing, and then it is a symbol.
@@ -131,11 +130,10 @@ fn read_name<'a>(
     if parser.sees(Punct::Open) {
         return read_application(alloc, sig, parser, name, room, left, before);
     }
-    match symbol(alloc, sig, name) {
-        Ok(name) => Ok(Some(Pattern::Sym(name))),
-        Err(TextError::Text(_)) => Ok(None),
-        Err(TextError::Memory) => Err(Memory),
-    }
+    let Some(name) = if_faultless(symbol(alloc, sig, name))? else {
+        return Ok(None);
+    };
+    Ok(Some(Pattern::Sym(name)))
 }
 
 /// Reads what stands in brackets behind the name of an operation, of which the opening one is held: its arguments.

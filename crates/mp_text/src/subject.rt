@@ -16,6 +16,7 @@ ghost use Rattle.mp_text.specs.Draft.{IsDraftOf};
 ghost use Rattle.mp_text.specs.ReadTerm.{IsSubjectRead};
 
 use crate::file::Subject;
+use crate::heading::named;
 use crate::reader::{Draft, add_statement_name};
 use crate::term_reader::read_term;
 use mp_build::{TextError, new_name, normal_built};
@@ -56,14 +57,7 @@ fn subject_at<'a>(
         IsSubjectRead sig.now (spot_of s.0) (tree s.1) (ahead parser.old) (ahead parser.new))) }
     ensures shorter { IfOk result (λ o. IfSome o (λ s. length (ahead parser.new) < length (ahead parser.old))) }
 {
-    if !parser.sees_word(b"subject") {
-        return Ok(None);
-    }
-    parser.advance();
-    let Ok(name) = parser.word() else {
-        return Ok(None);
-    };
-    let Ok(()) = parser.expect(Punct::Colon) else {
+    let Some(name) = named(parser, b"subject") else {
         return Ok(None);
     };
     let mut left = MAX_TERM_NODES as usize;

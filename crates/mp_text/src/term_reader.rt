@@ -9,7 +9,7 @@ ghost use Rattle.mp_parser.specs.Parsing.{ahead};
 ghost use Rattle.mp_parser.specs.View.{spot_of};
 ghost use Rattle.mp_text.specs.ReadTerm.{IsTermRead, AreArgumentsRead};
 
-use mp_build::{TextError, find_decl, symbol};
+use mp_build::{find_decl, if_faultless, symbol};
 use mp_parser::parser::Parser;
 use mp_parser::token::{Kind, Punct};
 use mp_syntax::Word;
@@ -45,11 +45,10 @@ pub(crate) fn read_term(
     if parser.sees(Punct::Open) {
         return read_application(alloc, sig, parser, name, room, left);
     }
-    match symbol(alloc, sig, name) {
-        Ok(name) => Ok(Some(Term::Sym(name))),
-        Err(TextError::Text(_)) => Ok(None),
-        Err(TextError::Memory) => Err(Memory),
-    }
+    let Some(name) = if_faultless(symbol(alloc, sig, name))? else {
+        return Ok(None);
+    };
+    Ok(Some(Term::Sym(name)))
 }
 
 /// Reads what stands in brackets behind the name of an operation, of which the opening one is held: its arguments.

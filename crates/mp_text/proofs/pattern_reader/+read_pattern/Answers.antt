@@ -108,16 +108,17 @@ read_arguments-returns-clause-read t c =
       small = built.small;
     }
 
-pub read_name-returns-in-Ok-clause-read : goal.read_name-returns-in-Ok-clause-read
-read_name-returns-in-Ok-clause-read t c =
+pub read_name-returns-clause-read : goal.read_name-returns-clause-read
+read_name-returns-clause-read t c =
     let name = spot_of c.args.name in
+    let symbol = rw (rw c.in-Some.is at c.in_ok-name.ensures.value) at c.symbol.ensures in
     record {
       expr = Symbol name;
       read = λ done x k len.
           word-alone MAX_OPEN done x k name (placed c.args.parser.now.token) _ (sym c.sees.ensures ∙ c.if-sees.false);
-      faultless = c.in-Ok.ensures.0;
-      pattern = ap symbol_pattern c.in-Ok.ensures.1;
-      one = one-symbol c.in-Ok.name;
+      faultless = symbol.0;
+      pattern = ap symbol_pattern symbol.1;
+      one = one-symbol c.in-Some.name;
       wildcards = sym (append-nil (map wildcard_view c.args.before.now.items));
       count = omega arith;
       small = refl;

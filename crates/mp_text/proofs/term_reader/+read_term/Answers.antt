@@ -131,17 +131,18 @@ read_term-returns-then-sees-clause-read t c =
     })
     c.read_application.ensures.read c.read_application.ensures.fewer
 
-pub read_term-returns-in-Ok-clause-read : goal.read_term-returns-in-Ok-clause-read
-read_term-returns-in-Ok-clause-read t c =
+pub read_term-returns-clause-read : goal.read_term-returns-clause-read
+read_term-returns-clause-read t c =
     let name = spot c.in-Word.text.now c.args.parser.now.token.place in
+    let symbol = rw (rw c.in-Some.is at c.in_ok-name.ensures.value) at c.symbol.ensures in
     record {
       expr = Symbol name;
       read = λ done x k len.
           word-begins done x k (placed c.args.parser.now.token) _ _ _ c.advance.ensures (ap token_of c.in-Word.is)
           ∙ word-alone MAX_OPEN done x k name (placed c.advance.new.self.token) _
           (sym c.sees.ensures ∙ c.if-sees.false);
-      faultless = c.in-Ok.ensures.0;
-      term = ap term.symbol c.in-Ok.ensures.1;
+      faultless = symbol.0;
+      term = ap term.symbol symbol.1;
       count = omega arith;
       small = refl;
     }

@@ -7,7 +7,7 @@ use Rattle.mp_build.proofs.Faultless.{nil-append}
 use Rattle.mp_build.proofs.SoundLaws.{holds_ops-pattern_of, defaults-pattern_of}
 use Rattle.mp_text.proofs.Draft.{draft_sig, draft_rule_count, draft-rule}
 use Rattle.mp_text.proofs.RuleReaderLaws.{is_large_rule-whole, rule_faults-whole}
-use Rattle.mp_text.proofs.rule_reader.add_head.Goals as goal
+use Rattle.mp_text.proofs.rule_reader.add_built_rule.Goals as goal
 
 pub normal_built_pattern-requires-clause-held : goal.normal_built_pattern-requires-clause-held
 normal_built_pattern-requires-clause-held c =
@@ -38,7 +38,7 @@ returns-in_err-template c = λ sig earlier e d whole.
     let none = (c.in_ok-add_statement_name.ensures count).0 in
     rw (p.1, p.2) (fails-behind c.in_err-template.field-0.0 _ _ (rw (d.rules, large) at none)
     (fails-along c.in_err-template.field-0.0 _ _ (sym (rule_faults-whole sig e _ _ whole x cond))
-    (rw (draft_sig sig earlier c.args.draft.now d, c.deref.ensures.value) at c.in_err-template.ensures)))
+    (rw (draft_sig sig earlier c.args.draft.now d) at c.in_err-template.ensures)))
 
 pub returns : goal.returns
 returns c = λ sig earlier e d whole.
@@ -48,8 +48,8 @@ returns c = λ sig earlier e d whole.
     let large = c.has_large_result-is_large.ensures ∙ sym (is_large_rule-whole sig e _ _ whole x cond) in
     let named = c.in_ok-add_statement_name.ensures count in
     let normal = rw (draft_sig sig earlier c.args.draft.now d) at c.in_ok-pattern.ensures.1 in
-    let results = rw (draft_sig sig earlier c.args.draft.now d, c.deref.ensures.value) at c.in_ok-template.ensures in (
+    let results = rw (draft_sig sig earlier c.args.draft.now d) at c.in_ok-template.ensures in (
       none-append _ _ (rw (d.rules, large) at named.0) ∙ rule_faults-whole sig e _ _ whole x cond ∙ results.0,
-      draft-rule sig earlier c.args.draft.now d (spot_of c.args.head.name) e x cond _ _ _ c.in_ok-push.ensures.ok
+      draft-rule sig earlier c.args.draft.now d (spot_of c.args.name) e x cond _ _ _ c.in_ok-push.ensures.ok
           (rw (c.in_ok-name.ensures.1, normal, whole.pattern, results.1.0, results.1.1) refl) named.1,
     )
