@@ -68,6 +68,7 @@ module _ (sig : Sig) (rules : List Rule) where
     pub right : IsKnown sig rules known t
     pub counted : nodes ≡ node_count (C t)
 
+  -- the same of a term with what is known of it and the nodes of the whole
   abbrev pub IsMarkedWithin : (Tree → Tree) → ℕ → Marked → Type 0
   IsMarkedWithin C levels m = IsWithin C levels (tree m.term) (mark_of m.known) m.nodes
 
