@@ -45,5 +45,6 @@ pub use level::{Level, Source, vacant_levels};
 pub use mode::Mode;
 pub use pieces::place_of;
 pub use query::{Query, Start};
+pub use reads::{has_head, is_contribution, is_of_kind};
 pub use room::Room;
 pub use stage::Stage;

@@ -19,8 +19,10 @@ use mp_pattern::{Pattern, Shape, is_assoc_above, meets_count, no_sequence};
 use mp_table::{Head, Rank, Table};
 use mp_term::{KindId, OpId, Signature};
 
-// Whether the term is an application of the operation.
-pub(crate) fn has_head(table: &Table, rank: Rank, op: OpId) -> bool
+/// Whether the term of the rank is an application of the operation: `has_head` of mp_term's `specs/NormalTest.antt`.
+///
+/// The table holds the rank.
+pub fn has_head(table: &Table, rank: Rank, op: OpId) -> bool
     requires { HasRank table.now rank }
     ensures { result ≡ has_head op.0 (term_at table.now rank) }
 {
@@ -52,8 +54,11 @@ pub(crate) fn is_alone(sig: &Signature, table: &Table, under: Option<OpId>, rank
     }
 }
 
-// Whether some term contributes the list.
-fn is_contribution(sig: &Signature, table: &Table, under: Option<OpId>, ranks: &[Rank]) -> bool
+/// Whether under the operation, or as a root where there is none, some term contributes the list of the terms of the
+/// ranks: `contributor` of mp_theory's `specs/Solve.antt`.
+///
+/// The table holds the ranks.
+pub fn is_contribution(sig: &Signature, table: &Table, under: Option<OpId>, ranks: &[Rank]) -> bool
     requires { HasRanks table.now ranks.now }
     ensures { result ≡ is_some (solve.contributor sig.now (above under) (terms_at table.now ranks.now)) }
 {
@@ -64,8 +69,10 @@ fn is_contribution(sig: &Signature, table: &Table, under: Option<OpId>, ranks: &
     }
 }
 
-// Whether the list is one symbol of the kind.
-fn is_of_kind(sig: &Signature, table: &Table, kind: KindId, ranks: &[Rank]) -> bool
+/// Whether the list of the terms of the ranks is one symbol of the kind: `of_kind` of mp_theory's `specs/Solve.antt`.
+///
+/// The table holds the ranks.
+pub fn is_of_kind(sig: &Signature, table: &Table, kind: KindId, ranks: &[Rank]) -> bool
     requires { HasRanks table.now ranks.now }
     ensures { result ≡ is_some (solve.of_kind sig.now kind.0 (terms_at table.now ranks.now)) }
 {

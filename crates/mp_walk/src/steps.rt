@@ -12,7 +12,8 @@ ghost use Rattle.mp_subst.specs.Trail.{length_at};
 ghost use Rattle.mp_walk.specs.Course.{entries_by, opens_by, IsWayValid, way_cost, is_comm_token};
 ghost use Rattle.mp_walk.specs.Course.{Read, steps_left, IsStepTaken};
 ghost use Rattle.mp_walk.specs.Levels.{read_of, search_of, trail_before, AreOfOneToken};
-ghost use Rattle.mp_walk.specs.OpenOnes.{IsFrame, IsPlaceBelow, AreFrames, above, open_of, opens};
+ghost use Rattle.mp_search.specs.Frames.{above};
+ghost use Rattle.mp_walk.specs.OpenOnes.{IsFrame, IsPlaceBelow, AreFrames, open_of, opens};
 ghost use Rattle.mp_walk.specs.SoundTokens.{IsSoundToken};
 ghost use Rattle.mp_walk.specs.TokenMachine.{Open};
 ghost use Rattle.mp_ac.specs.Numbered.{numbered_subst, IsTrailOf, LiesOver};
@@ -23,8 +24,8 @@ use crate::frame::Frame;
 use crate::front::{is_behind, take_front};
 use crate::level::Level;
 use crate::setting::Setting;
-use crate::token::is_headed;
 use mp_pattern::NetToken;
+use mp_search::has_head;
 use mp_subst::Trail;
 use mp_table::{Rank, Table};
 use mp_term::{Name, OpId, Signature, same_bytes};
@@ -73,7 +74,7 @@ pub(crate) fn first_way(
     ensures { result
         ≡ way_among from (has_head op.0 (term_at table.now rank)) (is_one sig.now op.0 && collapses) }
 {
-    let headed = is_headed(table, op, rank);
+    let headed = has_head(table, rank, op);
     let single = sig.is_one(op) && collapses;
     way_among(from, headed, single)
 }

@@ -1,18 +1,18 @@
 //! What the token of a wildcard takes, whatever was taken before.
 ghost use Rattle.std.specs.Prelude.{◌≡◌, ◌≤◌, ℕ, List, [], Option, is_some, length, true};
-ghost use Rattle.mp_term.specs.Signature.{in_kind, Sig};
-ghost use Rattle.mp_term.specs.NormalTest.{has_head};
+ghost use Rattle.mp_term.specs.Signature.{Sig};
 ghost use Rattle.mp_term.specs.Tree.{Tree};
 ghost use Rattle.mp_pattern.specs.NetTokens.{wild_token};
 ghost use Rattle.mp_pattern.specs.NetTokenView.{net_token};
 ghost use Rattle.mp_pattern.specs.PatternTree.{Wildcard, is_sequence};
-ghost use Rattle.mp_table.specs.Table.{HasRank, HasRanks, term_at, terms_at};
+ghost use Rattle.mp_table.specs.Table.{HasRanks, terms_at};
 ghost use Rattle.mp_theory.specs.Solve as solve;
-ghost use Rattle.mp_walk.specs.OpenOnes.{above};
+ghost use Rattle.mp_search.specs.Frames.{above};
 
 use mp_pattern::{NetToken, is_assoc_above, meets_count};
-use mp_table::{Head, Rank, Table};
-use mp_term::{KindId, OpId, Signature};
+use mp_search::{is_contribution, is_of_kind};
+use mp_table::{Rank, Table};
+use mp_term::{OpId, Signature};
 
 // The number of the variable of a wildcard.
 pub(crate) fn number(token: &NetToken) -> Option<u32>
@@ -64,62 +64,6 @@ pub(crate) fn most(sig: &Signature, under: Option<OpId>, token: &NetToken, left:
         _ => 1,
     };
     bound.min(left)
-}
-
-// The term is a symbol of the kind.
-fn in_kind(sig: &Signature, table: &Table, kind: KindId, rank: Rank) -> bool
-    requires { HasRank table.now rank }
-    ensures { result ≡ in_kind sig.now kind.0 (term_at table.now rank) }
-{
-    match table.head(rank) {
-        Head::Sym(name) => sig.kind_has(kind, name.bytes()),
-        Head::App(_) => false,
-    }
-}
-
-// The list is one symbol of the kind.
-fn is_of_kind(sig: &Signature, table: &Table, kind: KindId, ranks: &[Rank]) -> bool
-    requires { HasRanks table.now ranks.now }
-    ensures { result ≡ is_some (solve.of_kind sig.now kind.0 (terms_at table.now ranks.now)) }
-{
-    match ranks {
-        [only] => in_kind(sig, table, kind, *only),
-        _ => false,
-    }
-}
-
-// The term alone is a contribution under the operation.
-fn is_alone(sig: &Signature, table: &Table, under: Option<OpId>, rank: Rank) -> bool
-    requires { HasRank table.now rank }
-    ensures { result ≡ solve.is_alone sig.now (above under) (term_at table.now rank) }
-{
-    match under {
-        None => true,
-        Some(op) => !(sig.is_assoc(op) && is_headed(table, op, rank)),
-    }
-}
-
-// The term is an application of the operation.
-pub(crate) fn is_headed(table: &Table, op: OpId, rank: Rank) -> bool
-    requires { HasRank table.now rank }
-    ensures { result ≡ has_head op.0 (term_at table.now rank) }
-{
-    match table.head(rank) {
-        Head::Sym(_) => false,
-        Head::App(own) => own.0 == op.0,
-    }
-}
-
-// Some term contributes the list.
-fn is_contribution(sig: &Signature, table: &Table, under: Option<OpId>, ranks: &[Rank]) -> bool
-    requires { HasRanks table.now ranks.now }
-    ensures { result ≡ is_some (solve.contributor sig.now (above under) (terms_at table.now ranks.now)) }
-{
-    match ranks {
-        [] => false,
-        [only] => is_alone(sig, table, under, *only),
-        _ => is_assoc_above(sig, under),
-    }
 }
 
 // The wildcard may take the list.
