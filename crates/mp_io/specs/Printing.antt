@@ -1,5 +1,5 @@
--- What the answer of a call that writes a text means.
-use Rattle.std.specs.Prelude.{◌≡◌, ◌<◌, ◌++◌, List, length, Option, Result, OnErr, OnOk}
+-- What the answer of a call that writes a text means, and what stands between the items of a list.
+use Rattle.std.specs.Prelude.{◌≡◌, ◌<◌, ◌++◌, ℕ, zero, suc, List, [], length, Option, Result, OnErr, OnOk}
 use Rattle.std.specs.List.{flat_map}
 use Rattle.std.specs.Borrow.{Bor}
 use Rattle.std.specs.Io.KnownBytes.{Appends}
@@ -24,6 +24,11 @@ pub record Prints {T E : Type 0} (sink : Sunk) (text : Text) (result : Result T 
   pub whole : OnOk result (Appends sink.old sink.new text)
   pub front : OnErr result (IsCut sink.old sink.new text)
   pub cause : HasCause sink.faults sink.faults_after result
+
+-- what stands before the item of an index: the separator, but nothing before the first
+abbrev pub gap_text : Text → ℕ → Text
+gap_text separator zero = []
+gap_text separator (suc i) = separator
 
 -- the parts, one after another
 abbrev pub joined : List (Bor Text) → Text

@@ -4,6 +4,7 @@
 #![tactic(auto)]
 
 mod devices;
+mod lists;
 mod memory_shelf;
 mod memory_sink;
 mod real;
@@ -12,6 +13,7 @@ mod whole;
 mod writer;
 
 pub use devices::{Failed, Memory, Shelf, Sink};
+pub use lists::{put_gap, put_number};
 pub use memory_shelf::MemoryShelf;
 pub use memory_sink::MemorySink;
 pub use real::{RealShelf, RealSink};

@@ -12,10 +12,10 @@ use thiserror::Error;
 /// Why a file wasn't read whole.
 #[derive(Clone, Copy, Debug, PartialEq, Eq, Error)]
 pub enum ReadFault {
-    /// It wasn't started: the shelf's count of starts rose, or its files are told and none has the name.
+    /// It wasn't started: the shelf's count of faults of `start` rose, or its files are told and none has the name.
     #[error("cannot open")]
     Start,
-    /// A read failed: the shelf's count of reads rose.
+    /// A read failed: the shelf's count of faults of `read` rose.
     #[error("cannot read")]
     Read,
     /// The file gave more bytes than the limit.
@@ -31,9 +31,9 @@ pub enum ReadFault {
 /// It starts the file once, and makes at most `limit + 2` reads. No answer changes the shelf's files; which file is
 /// started after it isn't said.
 ///
-/// - `Start`: only where the count of starts rose, or the files are told and none has the name, which
+/// - `Start`: only where the count of faults of `start` rose, or the files are told and none has the name, which
 ///   always gets this answer.
-/// - `Read`: only where the count of reads rose.
+/// - `Read`: only where the count of faults of `read` rose.
 /// - `TooLong`: exactly where the file gave more than `limit` bytes; where the files are told, only
 ///   where the name has more than `limit`, and then the answer is no `Ok`.
 /// - `Memory`: there was no memory for the bytes.

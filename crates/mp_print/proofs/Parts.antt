@@ -9,10 +9,11 @@ use Rattle.mp_io.specs.Writing.{Puts}
 use Rattle.mp_io.specs.declared.devices.Sink.{Ghosts as SinkWords}
 use Rattle.mp_io.specs.declared.writer.Writer.{Writer}
 use Rattle.mp_io.proofs.WritingLaws.{Puts-then}
+use Rattle.mp_io.specs.Printing.{gap_text}
 use Rattle.std.proofs.lemmas.List.{get_or_default}
 use Rattle.std.proofs.lemmas.Option.{slice_get-map, slice_get-get_or}
 use Rattle.mp_term.specs.Signature.{Sig, Kind, kind_names, kind_members}
-use Rattle.mp_print.specs.Printing.{separated, gap_text}
+use Rattle.mp_print.specs.Printing.{separated}
 use Rattle.mp_print.specs.PrintedSignature.{kind_text, held_kind_text}
 use Rattle.mp_print.proofs.Separated.{Puts-separated}
 

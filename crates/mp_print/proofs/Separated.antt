@@ -9,8 +9,9 @@ use Rattle.mp_io.specs.Writing.{Puts}
 use Rattle.mp_io.specs.declared.devices.Sink.{Ghosts as SinkWords}
 use Rattle.mp_io.specs.declared.writer.Writer.{Writer}
 use Rattle.mp_io.proofs.WritingLaws.{Puts-then}
+use Rattle.mp_io.specs.Printing.{gap_text}
 use Rattle.mp_term.specs.declared.signature.OpDecl.{OpDecl}
-use Rattle.mp_print.specs.Printing.{separated, preceded, gap_text, prefix_text, infix_text, application_text}
+use Rattle.mp_print.specs.Printing.{separated, preceded, prefix_text, infix_text, application_text}
 use Rattle.mp_print.specs.Printing.{front_text, separator_text, held_text}
 
 -- texts behind the separator, and one more behind them

@@ -1,5 +1,5 @@
 -- The printed text of terms, values and substitutions.
-use Rattle.std.specs.Prelude.{ℕ, zero, suc, Bool, List, [], ◌∷◌, ◌++◌, length, map, Option, Some, None, slice_get}
+use Rattle.std.specs.Prelude.{ℕ, Bool, List, [], ◌∷◌, ◌++◌, length, map, Option, Some, None, slice_get}
 use Rattle.std.specs.Prelude.{unwrap_or, nat_le, if◌then◌else◌, codes}
 use Rattle.mp_io.specs.Devices.{Text}
 use Rattle.mp_term.specs.declared.signature.OpDecl.{OpDecl}
@@ -28,11 +28,6 @@ preceded separator (text ∷ texts) = separator ++ (text ++ preceded separator t
 abbrev pub separated : Text → List Text → Text
 separated separator [] = []
 separated separator (text ∷ texts) = text ++ preceded separator texts
-
--- what stands before the text of an index
-abbrev pub gap_text : Text → ℕ → Text
-gap_text separator zero = []
-gap_text separator (suc i) = separator
 
 -- the texts in round brackets, with the separator between each two
 abbrev pub bracketed : Text → List Text → Text

@@ -13,9 +13,8 @@ ghost use Rattle.mp_print.specs.PrintedCond.{cond_text};
 
 use crate::pattern_printer::kind_name;
 use crate::printer::put_term;
-use crate::tree_printer::put_gap;
 use itoa::Buffer;
-use mp_io::{Failed, Sink, Writer};
+use mp_io::{Failed, Sink, Writer, put_gap};
 use mp_pattern::{Amount, Cond, Operand, Sense};
 use mp_term::{OpId, Signature};
 

@@ -9,9 +9,7 @@ ghost use Rattle.mp_print.specs.PrintedEdits.{position_text, new_terms_text, edi
 
 use crate::printer::put_term;
 use crate::subst_printer::put_terms;
-use crate::tree_printer::put_gap;
-use itoa::Buffer;
-use mp_io::{Sink, Writer};
+use mp_io::{Sink, Writer, put_gap, put_number};
 use mp_term::{Edit, Edits, Position, Signature, Term};
 
 /// Puts the text of edits, with a comma between each two: `edits_text` of `specs/PrintedEdits.antt`. It takes no
@@ -63,13 +61,6 @@ fn put_indexes<K: Sink>(indexes: &[u32], out: &mut Writer<'_, K>)
         put_gap(place, b".", out);
         put_number(*index, out);
     }
-}
-
-/// Puts a number.
-fn put_number<K: Sink>(number: u32, out: &mut Writer<'_, K>)
-    ensures { Puts K.Sink out.old out.new (decimal number) }
-{
-    out.put(Buffer::new().format(number).as_bytes());
 }
 
 /// Puts the terms that replace another: one alone, and every other number of them in square brackets.

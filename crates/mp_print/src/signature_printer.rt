@@ -11,9 +11,8 @@ ghost use Rattle.mp_print.specs.Printing.{text_if, separated};
 ghost use Rattle.mp_print.specs.PrintedSignature.{op_text, head_text, kind_text, held_kind_text};
 ghost use Rattle.mp_print.specs.PrintedSignature.{signature_text};
 
-use crate::tree_printer::put_gap;
 use itoa::Buffer;
-use mp_io::{Failed, Sink, Writer};
+use mp_io::{Failed, Sink, Writer, put_gap};
 use mp_term::{KindId, Name, Names, OpDecl, OpId, Sign, Signature};
 
 /// Appends the declarations of a signature to the sink, the operations and then the declared kinds, each on a line of

@@ -9,8 +9,8 @@ ghost use Rattle.mp_subst.specs.View.{value_of, binding_of, subst_of};
 ghost use Rattle.mp_print.specs.Printing.{binding_text, separated, subst_text, term_text, value_text};
 
 use crate::printer::put_term;
-use crate::tree_printer::{put_enclosed, put_gap};
-use mp_io::{Failed, Sink, Writer};
+use crate::tree_printer::put_enclosed;
+use mp_io::{Failed, Sink, Writer, put_gap};
 use mp_subst::{Binding, Subst, Value};
 use mp_term::{Signature, Term};
 

@@ -2,10 +2,11 @@
 
 ghost use Rattle.std.specs.Prelude.{◌≡◌, ◌<◌, ◌++◌, ℕ, List, [], length, map, slice_get, sum_by, MatchOption, ⊤, codes};
 ghost use Rattle.mp_io.specs.Writing.{Puts};
+ghost use Rattle.mp_io.specs.Printing.{gap_text};
 ghost use Rattle.mp_term.specs.Signature.{Sig};
-ghost use Rattle.mp_print.specs.Printing.{front_text, gap_text, held_text, separated, separator_text};
+ghost use Rattle.mp_print.specs.Printing.{front_text, held_text, separated, separator_text};
 
-use mp_io::{Sink, Writer};
+use mp_io::{Sink, Writer, put_gap};
 use mp_term::{OpDecl, OpId, Sign, Signature};
 
 /// A tree that is printed: a leaf, or an operation with its arguments. `B` is what it stands on: a rank stands for a
@@ -153,13 +154,4 @@ fn put_spaced<K: Sink>(sign: &Sign, out: &mut Writer<'_, K>)
     out.put_byte(b' ');
     out.put(sign.bytes());
     out.put_byte(b' ');
-}
-
-/// Puts what stands before the item of that index: the separator, but nothing before the first.
-pub(crate) fn put_gap<K: Sink>(index: usize, separator: &[u8], out: &mut Writer<'_, K>)
-    ensures { Puts K.Sink out.old out.new (gap_text separator.now index) }
-{
-    if index > 0 {
-        out.put(separator);
-    }
 }

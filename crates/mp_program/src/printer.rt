@@ -20,8 +20,7 @@ ghost use Rattle.mp_program.specs.FormText.{numbered_test};
 ghost use Rattle.mp_program.specs.FormText.{line_of_rule, first_target, program_text};
 
 use crate::program::{Program, ProgramRule};
-use itoa::Buffer;
-use mp_io::{Failed, Sink, Writer};
+use mp_io::{Failed, Sink, Writer, put_number};
 use mp_pattern::{Cond, NetToken};
 use mp_print::{put_cond, put_pattern, put_signature, put_term};
 use mp_term::{KindId, Names, OpId, Signature};
@@ -264,13 +263,6 @@ fn put_target<K: Sink>(target: Option<u32>, out: &mut Writer<'_, K>)
         Some(number) => put_number(number, out),
         None => out.put(b"-"),
     }
-}
-
-// Puts a number in decimal.
-fn put_number<K: Sink>(number: u32, out: &mut Writer<'_, K>)
-    ensures { Puts K.Sink out.old out.new (decimal number) }
-{
-    out.put(Buffer::new().format(number).as_bytes());
 }
 
 // The name of an operation, and nothing where none is held.

@@ -7,9 +7,10 @@ use Rattle.std.specs.Option.{option_map_or}
 use Rattle.std.proofs.lemmas.List.{length-map, length-take-le, map-append, take_more}
 use Rattle.std.proofs.lemmas.Option.{slice_get-get_or}
 use Rattle.mp_io.specs.Devices.{Text}
+use Rattle.mp_io.specs.Printing.{gap_text}
 use Rattle.mp_table.specs.declared.rank.Rank.{Rank}
 use Rattle.mp_token.specs.Entry.{Entry}
-use Rattle.mp_token.specs.TokenText.{gap_text, ranks_text, entry_text, entries_text, front_text, next_entry_text}
+use Rattle.mp_token.specs.TokenText.{ranks_text, entry_text, entries_text, front_text, next_entry_text}
 
 -- the texts and one more behind them
 join_with_byte-push : (c : ℕ) (xs : List Text) (x : Text)

@@ -1,7 +1,8 @@
 -- The text of resume tokens.
-use Rattle.std.specs.Prelude.{ℕ, zero, suc, Bool, List, [], ◌++◌, map, if◌then◌else◌, codes, decimal}
+use Rattle.std.specs.Prelude.{ℕ, Bool, List, [], ◌++◌, map, if◌then◌else◌, codes, decimal}
 use Rattle.std.specs.List.{join_with_byte}
 use Rattle.mp_io.specs.Devices.{Text}
+use Rattle.mp_io.specs.Printing.{gap_text}
 use Rattle.mp_table.specs.declared.rank.Rank.{Rank}
 use Rattle.mp_token.specs.Entry.{Entry}
 use Rattle.mp_token.specs.declared.token.Token.{Token}
@@ -29,11 +30,6 @@ front_text subject rule es = subject ++ (codes "/" ++ (rule ++ (codes "/" ++ ent
 -- the text of a token
 abbrev pub token_text : Token → Text
 token_text t = front_text t.subject t.rule t.entries
-
--- what stands before the piece of an index: the separator, but nothing before the first
-abbrev pub gap_text : Text → ℕ → Text
-gap_text separator zero = []
-gap_text separator (suc i) = separator
 
 -- the entry of an index, and the semicolon before it where it isn't the first
 abbrev pub next_entry_text : ℕ → Entry → Text

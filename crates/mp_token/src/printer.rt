@@ -5,19 +5,18 @@ ghost use Rattle.std.specs.List.{AllByRecursion};
 ghost use Rattle.std.specs.Option.{option_map_or};
 ghost use Rattle.mp_io.specs.Devices.{Text};
 ghost use Rattle.mp_io.specs.Moments.{sunk};
-ghost use Rattle.mp_io.specs.Printing.{Prints};
+ghost use Rattle.mp_io.specs.Printing.{Prints, gap_text};
 ghost use Rattle.mp_io.specs.Writing.{Puts};
 ghost use Rattle.mp_io.specs.declared.writer.Writer.{Writer};
 ghost use Rattle.mp_term.specs.Names.{is_name};
 ghost use Rattle.mp_token.specs.Entry.{Entry, IsEntry, IsRank};
-ghost use Rattle.mp_token.specs.TokenText.{ranks_text, mark_text, front_text, token_text, gap_text};
+ghost use Rattle.mp_token.specs.TokenText.{ranks_text, mark_text, front_text, token_text};
 ghost use Rattle.mp_token.specs.TokenText.{next_entry_text};
 ghost use Rattle.mp_token.specs.Spelling.{IsSpelling};
 
 use crate::entries::TokenEntries;
 use crate::token::Token;
-use itoa::Buffer;
-use mp_io::{Failed, Sink, Writer};
+use mp_io::{Failed, Sink, Writer, put_gap, put_number};
 use mp_table::Rank;
 use mp_term::Name;
 
@@ -88,16 +87,16 @@ fn put_ranks<K: Sink>(ranks: &[Rank], out: &mut Writer<'_, K>)
 {
     for (index, rank) in ranks.iter().enumerate() {
         put_gap(index, b",", out);
-        put_number(rank.0, out);
+        put_rank(*rank, out);
     }
 }
 
-// Puts a number, which has 32 bits.
-fn put_number<K: Sink>(number: u32, out: &mut Writer<'_, K>)
-    ensures puts { Puts K.Sink out.old out.new (decimal number) }
-    ensures fit { number < 2 ^ 32 }
+// Puts a rank, which is a number of 32 bits.
+fn put_rank<K: Sink>(rank: Rank, out: &mut Writer<'_, K>)
+    ensures puts { Puts K.Sink out.old out.new (decimal rank.0) }
+    ensures fit { IsRank rank }
 {
-    out.put(Buffer::new().format(number).as_bytes());
+    put_number(rank.0, out);
 }
 
 // What stands behind the ranks of an entry.
@@ -105,13 +104,4 @@ fn mark(collapsed: bool) -> &'static [u8]
     ensures { result.now ≡ mark_text collapsed }
 {
     if collapsed { b"!" } else { b"" }
-}
-
-// Puts what stands before the piece of an index: the separator, but nothing before the first.
-fn put_gap<K: Sink>(index: usize, separator: &[u8], out: &mut Writer<'_, K>)
-    ensures { Puts K.Sink out.old out.new (gap_text separator.now index) }
-{
-    if index > 0 {
-        out.put(separator);
-    }
 }

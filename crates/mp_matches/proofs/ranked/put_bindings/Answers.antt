@@ -3,7 +3,8 @@ use Rattle.std.specs.Prelude.{IfSome, Some, codes, option_map, slice_get}
 use Rattle.std.proofs.lemmas.List.{length-map, map-append, take_more}
 use Rattle.std.proofs.lemmas.Option.{get_or_from_slice_get}
 use Rattle.mp_io.specs.Writing.{Puts}
-use Rattle.mp_print.specs.Printing.{binding_text, gap_text, separated}
+use Rattle.mp_io.specs.Printing.{gap_text}
+use Rattle.mp_print.specs.Printing.{binding_text, separated}
 use Rattle.mp_walk.specs.RankedView.{shown_binding}
 use Rattle.mp_print.proofs.Separated.{Puts-pushed, gap_text-pushed}
 use Rattle.mp_matches.proofs.ranked.put_bindings.Goals as goal

@@ -1,7 +1,8 @@
 use Rattle.std.proofs.Common.{◌≡◌, map, take, length}
 use Rattle.std.specs.Prelude.{codes}
 use Rattle.mp_io.specs.Writing.{Puts}
-use Rattle.mp_print.specs.Printing.{binding_text, gap_text, separated}
+use Rattle.mp_io.specs.Printing.{gap_text}
+use Rattle.mp_print.specs.Printing.{binding_text, separated}
 use Rattle.mp_matches.proofs.ranked.put_bindings.Given as goal
 
 -- the bindings so far were put, with what stands between them

@@ -2,10 +2,11 @@ use Rattle.std.proofs.Common.{◌≡◌, ◌∙◌, [], ◌∷◌, Some, map, ta
 use Rattle.std.specs.Prelude.{codes, option_map}
 use Rattle.std.proofs.lemmas.List.{length-map, map-append}
 use Rattle.mp_io.specs.Writing.{Puts}
+use Rattle.mp_io.specs.Printing.{gap_text}
 use Rattle.mp_pattern.specs.Value.{Binding}
 use Rattle.mp_subst.specs.Bound.{bound_of, value_in}
 use Rattle.mp_subst.specs.Trail.{last_value, bindings_from}
-use Rattle.mp_print.specs.Printing.{binding_text, gap_text, separated}
+use Rattle.mp_print.specs.Printing.{binding_text, separated}
 use Rattle.mp_print.proofs.Separated.{Puts-pushed, gap_text-pushed}
 use Rattle.mp_print.proofs.BoundVariables.{bindings_from-unbound, bindings_from-nameless, bindings_from-bound}
 use Rattle.mp_print.proofs.trail_printer.put_variables.Goals as goal

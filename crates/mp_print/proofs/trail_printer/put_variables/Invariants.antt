@@ -1,8 +1,9 @@
 use Rattle.std.proofs.Common.{◌≡◌, map, take, length}
 use Rattle.std.specs.Prelude.{codes}
 use Rattle.mp_io.specs.Writing.{Puts}
+use Rattle.mp_io.specs.Printing.{gap_text}
 use Rattle.mp_subst.specs.Trail.{bindings_from}
-use Rattle.mp_print.specs.Printing.{binding_text, gap_text, separated}
+use Rattle.mp_print.specs.Printing.{binding_text, separated}
 use Rattle.mp_print.proofs.trail_printer.put_variables.Given as goal
 
 -- the variables so far that are bound were put, with what stands between them

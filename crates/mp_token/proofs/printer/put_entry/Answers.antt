@@ -2,8 +2,9 @@ use Rattle.std.proofs.Common.{◌++◌, subst, sym, ◌∙◌, ap}
 use Rattle.std.specs.Prelude.{codes}
 use Rattle.mp_io.specs.Writing.{Puts}
 use Rattle.mp_io.proofs.WritingLaws.{Puts-then}
+use Rattle.mp_io.specs.Printing.{gap_text}
 use Rattle.mp_token.specs.Entry.{Entry}
-use Rattle.mp_token.specs.TokenText.{front_text, next_entry_text, gap_text, ranks_text, mark_text}
+use Rattle.mp_token.specs.TokenText.{front_text, next_entry_text, ranks_text, mark_text}
 use Rattle.mp_token.proofs.JoinedTexts.{front_text-push}
 use Rattle.mp_token.proofs.printer.put_entry.Goals as goal
 
