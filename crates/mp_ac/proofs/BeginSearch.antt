@@ -16,6 +16,7 @@ use Rattle.mp_term.specs.Tree.{Tree, symbol, app, tree_list}
 use Rattle.mp_term.specs.TreeLists.{trees-tree_list}
 use Rattle.mp_term.proofs.SearchLaws.{in-left, in-right}
 use Rattle.mp_term.proofs.Sorting.{Ascends, ascends-sorted}
+use Rattle.mp_term.proofs.ListLaws.{all-split}
 use Rattle.mp_pattern.specs.Constants.{pattern_constants, all_pattern_constants}
 use Rattle.mp_pattern.specs.Fits.{arranged}
 use Rattle.mp_pattern.specs.NetTokens.{numbered}
@@ -33,12 +34,12 @@ use Rattle.mp_table.specs.Table.{Table, IsTable, HasRank, HasRanks, rank_cmp, ra
 use Rattle.mp_table.specs.declared.rank.Rank.{Rank}
 use Rattle.mp_subst.specs.Trail.{Trail}
 use Rattle.mp_subst.proofs.BoundLaws.{sorted-terms, ranks_same}
+use Rattle.mp_subst.proofs.RankLists.{rank_cmp_total}
 use Rattle.mp_theory.proofs.FirstsLaws.{from_in-firsts_after}
 use Rattle.mp_search.specs.Grounds.{AreGrounds}
 use Rattle.mp_search.specs.declared.stage.Stage.TheVariants.{Before, Standing}
-use Rattle.mp_search.proofs.GroundsHeld.{both, grounds-held}
+use Rattle.mp_search.proofs.GroundsHeld.{grounds-held}
 use Rattle.mp_search.proofs.OpenLaws.{sorted-ascends}
-use Rattle.mp_search.proofs.RankOrder.{rank_total}
 use Rattle.mp_ac.specs.Args.{args_of}
 use Rattle.mp_ac.specs.Asked.{IsAsked, cost, root_list}
 use Rattle.mp_ac.specs.Begin.{AreParts, IsNodeOf}
@@ -67,7 +68,8 @@ ranks-ascend t table rs there order =
     let same : sorted rank_cmp rs ≡ rs =
     ranks_same t table (sorted rank_cmp rs) rs (all-sorted (HasRank t) rank_cmp rs there) there
     (sym (sorted-terms t table rs there) ∙ order) in
-    sorted-ascends rank_cmp rank_total rs (subst (Ascends rank_cmp) same (ascends-sorted rank_cmp rank_total rs))
+    sorted-ascends rank_cmp rank_cmp_total rs
+    (subst (Ascends rank_cmp) same (ascends-sorted rank_cmp rank_cmp_total rs))
 
 -- what the children take together has no more nodes than the term
 pub given-nodes : (t : Tree) (alone : Bool) → all_nodes (given_terms t alone) ≤ node_count t
@@ -82,7 +84,7 @@ constants-behind : (P : Tree → Type 0) (ps qs : List Pattern)
     → AllByRecursion P (all_pattern_constants (patterns qs))
 constants-behind P [] qs h = h
 constants-behind P (p ∷ ps) qs h =
-    constants-behind P ps qs (both P (pattern_constants p) (all_pattern_constants (patterns (ps ++ qs))) h).1
+    constants-behind P ps qs (all-split P (pattern_constants p) (all_pattern_constants (patterns (ps ++ qs))) h).1
 
 -- the children that take one term each, of a pattern whose variables are named by numbers
 in-uses : (x : List ℕ) (p : Pattern) → In x (variables p) → In x (map (λ (u : Use). u.name) (uses None p))
@@ -98,13 +100,13 @@ all-leading sig [] qs h each = tt
 all-leading sig (p ∷ ps) qs h each =
     let own = map (λ (u : Use). u.name) (uses None p) in
     let rest = map (λ (u : Use). u.name) (all_uses None (patterns (ps ++ qs))) in
-    let both : map (λ (u : Use). u.name) (all_uses None (patterns (p ∷ ps ++ qs))) ≡ own ++ rest =
+    let all-split : map (λ (u : Use). u.name) (all_uses None (patterns (p ∷ ps ++ qs))) ≡ own ++ rest =
     map-append (λ (u : Use). u.name) (uses None p) (all_uses None (patterns (ps ++ qs))) in (
       record {
         takes_one = each.0;
-        names = λ x i. h x (subst (In x) (sym both) (in-left x own rest (in-uses x p i)));
+        names = λ x i. h x (subst (In x) (sym all-split) (in-left x own rest (in-uses x p i)));
       },
-      all-leading sig ps qs (λ x i. h x (subst (In x) (sym both) (in-right x own rest i))) each.1,
+      all-leading sig ps qs (λ x i. h x (subst (In x) (sym all-split) (in-right x own rest i))) each.1,
     )
 
 -- what the children take together

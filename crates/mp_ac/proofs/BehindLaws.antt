@@ -9,14 +9,13 @@ use Rattle.std.specs.List.{AllByRecursion}
 use Rattle.std.specs.List.Sorted.{IsStrictlySortedBy}
 use Rattle.std.proofs.lemmas.Cmp.{tied_itself, lists_total}
 use Rattle.mp_term.specs.Search.{In}
-use Rattle.mp_term.specs.OrderLaws.{both_equal}
 use Rattle.mp_term.proofs.ListingLaws.{all_in}
+use Rattle.mp_term.proofs.TestLaws.{equal-from}
 use Rattle.mp_pattern.specs.Fits.{Table}
 use Rattle.mp_pattern.specs.DerivationOrder.{table_cmp}
-use Rattle.mp_table.proofs.Distinct.{equal-from}
 use Rattle.mp_theory.specs.OneList.{Item, item_tables}
 use Rattle.mp_theory.proofs.Tables.{entry_cmp_total}
-use Rattle.mp_theory.proofs.Unique.{same_entry}
+use Rattle.mp_theory.proofs.Unique.{same_table}
 use Rattle.mp_ac.specs.CommItems.{NoneTwice}
 use Rattle.mp_ac.specs.CommList.{behind_table}
 
@@ -24,20 +23,11 @@ use Rattle.mp_ac.specs.CommList.{behind_table}
 pub table_total : IsTotalOrder table_cmp
 table_total = lists_total entry_cmp_total
 
--- tables that compare equal are equal
-same-table : (T U : Table) → table_cmp T U ≡ Equal → T ≡ U
-same-table [] [] h = refl
-same-table [] (e ∷ U) h = cc
-same-table (d ∷ T) [] h = cc
-same-table (d ∷ T) (e ∷ U) h =
-    let k = both_equal _ _ h in
-    ap (λ x. x ∷ T) (same_entry d e k.0) ∙ ap (λ x. e ∷ x) (same-table T U k.1)
-
 -- another table isn't behind which one stands
 pub other-table : (T U : Table) → (T ≡ U → ⊥) → is_eq (table_cmp T U) ≡ false
 other-table T U never =
     elim (is_eq (table_cmp T U)) as (λ b. is_eq (table_cmp T U) ≡ b → b ≡ false) [
-      | true ↦ λ e. absurd (never (same-table T U (equal-from (table_cmp T U) e)))
+      | true ↦ λ e. absurd (never (same_table T U (equal-from (table_cmp T U) e)))
       | false ↦ λ e. refl
     ] refl
 

@@ -18,6 +18,7 @@ use Rattle.mp_term.proofs.ListingLaws.{same_members}
 use Rattle.mp_term.proofs.PiecesLaws.{all-piece, in-distinct, piece-accepts}
 use Rattle.mp_term.proofs.SearchLaws.{in-filter, from_in-filter, in-flat, from_in-flat}
 use Rattle.mp_term.proofs.SearchLaws.{all-from_in, flat_map-same, ascending-flat}
+use Rattle.mp_term.proofs.ListLaws.{both-empty}
 use Rattle.mp_pattern.specs.DerivationOrder.{entry_cmp}
 use Rattle.mp_pattern.specs.Fits.{Entry}
 use Rattle.mp_pattern.specs.PatternTree.{Pattern, symbol_pattern, app_pattern, wild_pattern, Patterns, more_patterns}
@@ -25,6 +26,7 @@ use Rattle.mp_pattern.specs.Size.{pattern_nodes, all_pattern_nodes}
 use Rattle.mp_pattern.specs.Syntactic.{is_syntactic}
 use Rattle.mp_pattern.specs.Value.{Subst}
 use Rattle.mp_pattern.specs.Variables.{comm_above}
+use Rattle.mp_pattern.proofs.OnePattern.{has_nodes}
 use Rattle.mp_theory.specs.Frames.{Frame, child}
 use Rattle.mp_theory.specs.Items.{items, items_by}
 use Rattle.mp_theory.specs.Machine.{reads, choices}
@@ -35,17 +37,13 @@ use Rattle.mp_theory.proofs.Walk.{choices-exact, in-entries, from_in-entries}
 use Rattle.mp_ac.specs.CommList.{comm_list}
 use Rattle.mp_ac.specs.TakesOne.{takes_one, is_left, items_with, items_by as items_of, items_among}
 use Rattle.mp_theory.proofs.NextTerm.{both, TakesTerm, reads-single}
-use Rattle.mp_theory.proofs.InnerItems.{some_nodes, child-items}
+use Rattle.mp_theory.proofs.InnerItems.{child-items}
 
 -- `flat_map` over `flat_map`, and where it gives nothing
-flat-flat : {X Y Z : Type 0} (f : Y → List Z) (g : X → List Y) (xs : List X)
+pub flat-flat : {X Y Z : Type 0} (f : Y → List Z) (g : X → List Y) (xs : List X)
     → flat_map f (flat_map g xs) ≡ flat_map (λ x. flat_map f (g x)) xs
 flat-flat f g [] = refl
 flat-flat f g (x ∷ xs) = flat_map-append f (g x) (flat_map g xs) ∙ ap (λ ys. flat_map f (g x) ++ ys) (flat-flat f g xs)
-
-both-empty : {X : Type 0} (xs ys : List X) → xs ++ ys ≡ [] → (xs ≡ []) × (ys ≡ [])
-both-empty [] ys e = (refl, e)
-both-empty (x ∷ xs) ys e = cc
 
 flat-empty : {X Y : Type 0} (f : X → List Y) (x : X) (xs : List X) → In x xs → flat_map f xs ≡ [] → f x ≡ []
 flat-empty f x [] h e = absurd h
@@ -219,7 +217,7 @@ module _ (sig : Sig) (g : ℕ) (p : Pattern) (ps : Patterns) (left : List Tree) 
 
       from_nodes : (m : ℕ) → pattern_nodes p + all_pattern_nodes ps ≡ m
           → items sig m (child p here []) s ≡ items_among sig g p ps left owes s ts
-      from_nodes zero e = absurd (omega (arith, e, some_nodes p))
+      from_nodes zero e = absurd (omega (arith, e, has_nodes p))
       from_nodes (suc j) e =
           let F = items_by sig j (child p here []) s in
           let cs = choices sig (child p here []) in

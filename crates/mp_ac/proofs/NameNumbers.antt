@@ -5,6 +5,7 @@ use Rattle.std.proofs.Common.{refl, ap, ◌∙◌, subst, arith, slice_index_or}
 use Rattle.std.proofs.Common.{map, take, zero, suc}
 use Rattle.std.specs.Prelude.{decimal, Some, option_map, slice_get}
 use Rattle.mp_term.specs.Search.{In}
+use Rattle.mp_term.proofs.TestLaws.{below_or_not}
 use Rattle.mp_pattern.specs.Plan.{Variable}
 use Rattle.std.proofs.lemmas.Fmt.{decimal_by_steps}
 use Rattle.mp_pattern.specs.NetTokens.{numbered}
@@ -42,11 +43,8 @@ pub record HasTwoDigits (x : List ℕ) : Type 0 where
   pub is : x ≡ numbered number
 
 pub one_or_two : (x : List ℕ) → IsNumbered x → HasOneDigit x ⊎ HasTwoDigits x
-one_or_two x h = by_size (below h.number 10)
+one_or_two x h = by_size (below_or_not h.number 10)
   where
-    below : (m n : ℕ) → (m < n) ⊎ (n ≤ m)
-    below m n = grind arith
-
     digits : AreDigits h.number (decimal h.number)
     digits = digits-decimal h.number (omega (arith, h.few))
 

@@ -8,12 +8,12 @@ use Rattle.mp_term.specs.Pieces.{without}
 use Rattle.mp_term.specs.Search.{In}
 use Rattle.mp_term.specs.Signature.{Sig}
 use Rattle.mp_term.specs.Tree.{Tree}
+use Rattle.mp_term.proofs.ListLaws.{all-get}
 use Rattle.mp_pattern.specs.PatternLists.{pattern_list-patterns}
 use Rattle.mp_pattern.specs.PatternTree.{Pattern, app_pattern, patterns, pattern_list}
 use Rattle.mp_pattern.specs.Value.{Subst}
 use Rattle.mp_table.specs.Table.{Table, term_at}
 use Rattle.mp_table.specs.declared.rank.Rank.{Rank}
-use Rattle.mp_subst.proofs.TrailLaws.{all-get}
 use Rattle.mp_theory.specs.Shape.{shape}
 use Rattle.mp_ac.specs.Asked.{root_list}
 use Rattle.mp_ac.specs.Begin.{AreNone, IsBlocked}

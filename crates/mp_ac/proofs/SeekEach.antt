@@ -11,6 +11,7 @@ use Rattle.mp_term.specs.Order.{tree_cmp}
 use Rattle.mp_term.specs.Search.{In}
 use Rattle.mp_term.specs.Tree.{Tree}
 use Rattle.mp_term.proofs.SearchLaws.{in-map}
+use Rattle.mp_term.proofs.ListLaws.{all-get}
 use Rattle.mp_pattern.specs.Fits.{Table}
 use Rattle.mp_pattern.specs.PatternTree.{Pattern}
 use Rattle.mp_pattern.specs.Value.{Subst}
@@ -21,7 +22,6 @@ use Rattle.mp_table.specs.Table.{HasRank, HasRanks, rank_cmp, term_at, terms_at}
 use Rattle.mp_table.specs.declared.rank.Rank.{Rank}
 use Rattle.mp_table.proofs.RankLaws.{rank_order}
 use Rattle.mp_subst.specs.Trail.{Trail}
-use Rattle.mp_subst.proofs.TrailLaws.{all-get}
 use Rattle.mp_theory.specs.OneList.{Item, item_tables}
 use Rattle.mp_theory.specs.Shape.{shape, table_of}
 use Rattle.mp_search.specs.declared.level.Level.{Level}

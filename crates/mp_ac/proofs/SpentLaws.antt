@@ -14,6 +14,7 @@ use Rattle.mp_term.specs.Tree.{Tree}
 use Rattle.mp_term.proofs.ListingLaws.{all_in}
 use Rattle.mp_term.proofs.PiecesLaws.{all-without}
 use Rattle.mp_term.proofs.SearchLaws.{all-from_in}
+use Rattle.mp_term.proofs.ListLaws.{all-get}
 use Rattle.mp_pattern.specs.Fits.{Table}
 use Rattle.mp_pattern.specs.PatternTree.{Wildcard, Pattern, app_pattern, wild_pattern, Patterns, no_patterns}
 use Rattle.mp_pattern.specs.PatternTree.{more_patterns, patterns}
@@ -24,7 +25,6 @@ use Rattle.mp_table.specs.Table as plain
 use Rattle.mp_table.specs.Table.{IsTable, term_at, terms_at}
 use Rattle.mp_table.specs.declared.rank.Rank.{Rank}
 use Rattle.mp_subst.specs.Trail.{Trail}
-use Rattle.mp_subst.proofs.TrailLaws.{all-get}
 use Rattle.mp_theory.specs.Items.{in_front}
 use Rattle.mp_theory.specs.OneList.{item_tables}
 use Rattle.mp_theory.specs.Shape.{shape, table_of}

@@ -12,7 +12,7 @@ use Rattle.mp_term.specs.Signature.{Sig}
 use Rattle.mp_term.specs.Tree.{Tree}
 use Rattle.mp_term.proofs.ListingLaws.{all_in}
 use Rattle.mp_term.proofs.SearchLaws.{in-map}
-use Rattle.mp_subst.proofs.TrailLaws.{all-get}
+use Rattle.mp_term.proofs.ListLaws.{all-get}
 use Rattle.mp_pattern.specs.declared.limits.TheConstants.{MAX_VARIABLES}
 use Rattle.mp_pattern.specs.DerivationOrder.{table_cmp}
 use Rattle.mp_pattern.specs.Fits.{Table}

@@ -10,9 +10,9 @@ use Rattle.mp_pattern.specs.Size.{pattern_nodes, all_pattern_nodes}
 use Rattle.mp_pattern.specs.Subpatterns.{subpatterns, all_subpatterns}
 use Rattle.mp_pattern.specs.View.{pattern_tree}
 use Rattle.mp_pattern.proofs.ItemLaws.{slice_get-found, slice_get-second}
+use Rattle.mp_pattern.proofs.OnePattern.{has_nodes}
 use Rattle.mp_term.specs.declared.term.OpId.{OpId}
 use Rattle.mp_search.proofs.PartLaws.{first-pattern}
-use Rattle.mp_theory.proofs.InnerItems.{some_nodes}
 
 -- those below the root
 abbrev pub inner : Pattern → List Pattern
@@ -49,7 +49,7 @@ module _ (list : List declared.Pattern) (first : declared.Pattern) (some : 1 ≤
   children-fall g ps e = omega (arith, nodes-is, ap pattern_nodes e)
 
   pub later-fall : nodes later < nodes list
-  later-fall = omega (arith, nodes-is, some_nodes (pattern_tree first))
+  later-fall = omega (arith, nodes-is, has_nodes (pattern_tree first))
 
   -- a node below the first pattern, and one behind it
   pub inner-found : (n : ℕ) (p : Pattern) → (n ≡ 0 → ⊥) → slice_get (inner (pattern_tree first)) (n - 1) ≡ Some p

@@ -12,8 +12,7 @@ use Rattle.mp_subst.specs.Trail.{Trail, cut, length_at}
 use Rattle.mp_theory.specs.OneList.{Item}
 use Rattle.mp_ac.specs.declared.asked.Asked.{Asked}
 use Rattle.mp_ac.specs.declared.comm_matcher.CommMatcher.{CommMatcher}
-use Rattle.mp_search.specs.declared.stage.Stage.{Stage}
-use Rattle.mp_search.specs.declared.stage.Stage.TheVariants.{Before, Standing, Ended}
+use Rattle.mp_search.specs.Stage.{item_at}
 use Rattle.mp_ac.specs.Asked.{levels_table, trail_subst}
 use Rattle.mp_ac.specs.Moved.{ahead_in, IsStandingAt}
 
@@ -59,11 +58,6 @@ abbrev pub entry_of : CommMatcher → ℕ → Option fits.Entry
 entry_of m node = if nat_le node m.node then None else slice_get (entries_of m) (node - m.node - 1)
 
 -- the item at which it stands, if it stands at one
-abbrev pub item_at : Stage → Item → Option Item
-item_at Before i = None
-item_at Standing i = Some i
-item_at Ended i = None
-
 abbrev pub item_of : CommMatcher → Option Item
 item_of m = item_at m.stage (entries_of m, read_trail m m.trail)
 

@@ -11,6 +11,7 @@ use Rattle.std.proofs.lemmas.List.Sorted.{IsPermutation-sym, All-permutation}
 use Rattle.std.proofs.lemmas.Map.Text.{is_eq-slice_cmp}
 use Rattle.std.proofs.lemmas.Slice.Eq.{bytes_eq-Decides}
 use Rattle.std.proofs.lemmas.Bool.{or_parts}
+use Rattle.std.proofs.Math.Bool.{and-false}
 use Rattle.mp_term.specs.Signature.{Sig}
 use Rattle.mp_pattern.specs.Firsts.{firsts_after, is_known, add_new}
 use Rattle.mp_pattern.specs.Normal.{normal_pattern}
@@ -216,10 +217,6 @@ module _ (x : List ℕ) where
       → filter (λ u. same_name x u.name && is_sequence u.wildcard) us ≡ []
   none-filtered [] h = refl
   none-filtered (u ∷ us) h = rw h.0 (none-filtered us h.1)
-
-  and-false : (b : Bool) → (b && false) ≡ false
-  and-false true = refl
-  and-false false = refl
 
   no_sequence-shape : (f : Option ℕ) (w : Wildcard) (name : List ℕ)
       → (is_many (extent w) ≡ false → is_sequence w ≡ false)

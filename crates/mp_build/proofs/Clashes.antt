@@ -7,6 +7,7 @@ use Rattle.std.proofs.lemmas.List.{map-append}
 use Rattle.std.proofs.lemmas.Slice.Eq.{bytes_eq-Decides}
 use Rattle.std.proofs.lemmas.Bool.{not-false}
 use Rattle.mp_term.specs.Signature.{Sig}
+use Rattle.mp_term.proofs.ListLaws.{both-empty}
 use Rattle.std.specs.Bool.{beq}
 use Rattle.std.specs.Cmp.{booleans_Decides}
 use Rattle.mp_pattern.specs.Extent.{Extent, single, extent}
@@ -20,6 +21,7 @@ use Rattle.mp_parser.specs.Syntax.{Tree, Symbol, Apply, InfixOf, Wild, Optional,
 use Rattle.mp_parser.specs.Syntax.{no_trees, more_trees}
 use Rattle.mp_build.specs.declared.fault.TextFault.{TextFault}
 use Rattle.std.specs.Prelude.{if◌then◌else◌}
+use Rattle.std.proofs.Math.Bool.{not-not}
 use Rattle.mp_build.specs.Names.{is_same_variable}
 use Rattle.mp_build.specs.Wildcards.{DefaultForm, absent, normal_form, unknown, PatternWildcard, without_default}
 use Rattle.mp_build.specs.Wildcards.{with_count, with_default_form, pattern_wildcards, all_pattern_wildcards}
@@ -30,7 +32,7 @@ use Rattle.mp_build.specs.Checks.{fault_if, head_faults, arity_faults, sign_faul
 use Rattle.mp_build.specs.Checks.{kind_unknown, default_faults, wildcard_faults, count_faults, pattern_faults}
 use Rattle.mp_build.specs.Checks.{pattern_operand_faults, all_pattern_faults}
 use Rattle.mp_build.proofs.Words.{first-of, second-of}
-use Rattle.mp_build.proofs.Faultless.{nil-append, nil-fault_if}
+use Rattle.mp_build.proofs.Faultless.{nil-fault_if}
 use Rattle.mp_build.proofs.Defaults.{default_form-default_faults}
 
 -- ---- how many terms wildcards stand for
@@ -41,10 +43,6 @@ same_extent-same d e h =
     let least = eqb-true d.least e.least (first-of (eqb d.least e.least) (beq d.fixed e.fixed) h) in
     let fixed = (booleans_Decides d.fixed e.fixed).0 (second-of (eqb d.least e.least) (beq d.fixed e.fixed) h) in
     λ i. record { least = least i; fixed = fixed i }
-
-not-not : (b : Bool) → not (not b) ≡ b
-not-not true = refl
-not-not false = refl
 
 -- a wildcard with a count stands for so many
 pub extent-counted_shape : (n : ℕ) (more : Bool)
@@ -83,9 +81,9 @@ pub nil-pattern_operands : (sig : Sig) (before : List PatternWildcard) (at_sign 
     → pattern_operand_faults sig before at_sign ps ≡ [] → (at_sign ≡ []) × (all_pattern_faults sig before ps ≡ [])
 nil-pattern_operands sig before at_sign no_trees h = (h, refl)
 nil-pattern_operands sig before at_sign (more_trees p ps) h =
-    let q = nil-append (pattern_faults sig before p)
+    let q = both-empty (pattern_faults sig before p)
     (at_sign ++ all_pattern_faults sig (before ++ pattern_wildcards sig p) ps) h in
-    let r = nil-append at_sign (all_pattern_faults sig (before ++ pattern_wildcards sig p) ps) q.1 in
+    let r = both-empty at_sign (all_pattern_faults sig (before ++ pattern_wildcards sig p) ps) q.1 in
     (r.0, ap (λ l. l ++ all_pattern_faults sig (before ++ pattern_wildcards sig p) ps) q.0 ∙ r.1)
 
 module _ (sig : Sig) where
@@ -94,7 +92,7 @@ module _ (sig : Sig) where
       → list_any (differs w) before ≡ false
   Apart-wildcard_faults before w h =
       nil-fault_if (list_any (differs w) before) _ w.wildcard.place
-      (nil-append (fault_if (kind_unknown sig w.wildcard.kind) _ w.wildcard.place)
+      (both-empty (fault_if (kind_unknown sig w.wildcard.kind) _ w.wildcard.place)
       (fault_if (list_any (differs w) before) _ w.wildcard.place) h).1
 
   mutual
@@ -104,30 +102,30 @@ module _ (sig : Sig) where
     Apart-pattern_faults before (Symbol w) h = tt
     Apart-pattern_faults before (Apply f args) h =
         Apart-all_pattern_faults before args
-        (nil-append (head_faults (allows_args sig args) f (op_named sig f.text))
+        (both-empty (head_faults (allows_args sig args) f (op_named sig f.text))
         (all_pattern_faults sig before args) h).1
     Apart-pattern_faults before (InfixOf opened sign operands) h =
         let at_sign = sign_faults sign (op_signed sig sign.text) in
-        let p = nil-append (arity_faults (allows_args sig operands) opened (op_signed sig sign.text))
+        let p = both-empty (arity_faults (allows_args sig operands) opened (op_signed sig sign.text))
         (pattern_operand_faults sig before at_sign operands) h in
         Apart-all_pattern_faults before operands (nil-pattern_operands sig before at_sign operands p.1).1
     Apart-pattern_faults before (Wild w) h = (Apart-wildcard_faults before (without_default w) h, tt)
     Apart-pattern_faults before (Optional w others default) h =
         let v = with_default_form sig w others default in (
           Apart-wildcard_faults before v
-              (nil-append (wildcard_faults sig before v) (default_faults sig others default) h).0,
+              (both-empty (wildcard_faults sig before v) (default_faults sig others default) h).0,
           tt,
         )
     Apart-pattern_faults before (Counted w count more) h =
         let v = with_count w count more in
-        (Apart-wildcard_faults before v (nil-append (wildcard_faults sig before v) (count_faults count more) h).0, tt)
+        (Apart-wildcard_faults before v (both-empty (wildcard_faults sig before v) (count_faults count more) h).0, tt)
     Apart-pattern_faults before (Variable x) h = tt
 
     Apart-all_pattern_faults : (before : List PatternWildcard) (ps : Trees) → all_pattern_faults sig before ps ≡ []
         → Apart before (all_pattern_wildcards sig ps)
     Apart-all_pattern_faults before no_trees h = tt
     Apart-all_pattern_faults before (more_trees p ps) h =
-        let q = nil-append (pattern_faults sig before p)
+        let q = both-empty (pattern_faults sig before p)
         (all_pattern_faults sig (before ++ pattern_wildcards sig p) ps) h in
         Apart-append before (pattern_wildcards sig p) (all_pattern_wildcards sig ps) (Apart-pattern_faults before p q.0)
         (Apart-all_pattern_faults (before ++ pattern_wildcards sig p) ps q.1)
@@ -247,17 +245,17 @@ module _ (sig : Sig) where
     wilds-pattern_of before (Symbol w) h = refl
     wilds-pattern_of before (Apply f args) h =
         wilds-patterns_of before args
-        (nil-append (head_faults (allows_args sig args) f (op_named sig f.text))
+        (both-empty (head_faults (allows_args sig args) f (op_named sig f.text))
         (all_pattern_faults sig before args) h).1
     wilds-pattern_of before (InfixOf opened sign operands) h =
         let at_sign = sign_faults sign (op_signed sig sign.text) in
-        let p = nil-append (arity_faults (allows_args sig operands) opened (op_signed sig sign.text))
+        let p = both-empty (arity_faults (allows_args sig operands) opened (op_signed sig sign.text))
         (pattern_operand_faults sig before at_sign operands) h in
         wilds-patterns_of before operands (nil-pattern_operands sig before at_sign operands p.1).1
     wilds-pattern_of before (Wild w) h = ap (λ s. wild_pattern (kind_shape sig w.kind s) (variable_of w.name) ∷ [])
         (sym (extent_shape-marked w.marks))
     wilds-pattern_of before (Optional w others default) h =
-        let p = nil-append (wildcard_faults sig before (with_default_form sig w others default))
+        let p = both-empty (wildcard_faults sig before (with_default_form sig w others default))
         (default_faults sig others default) h in
         ap (λ f. wild_pattern (form_shape f w.kind single) (variable_of w.name) ∷ [])
         (sym (default_form-default_faults sig others default p.1))
@@ -270,7 +268,7 @@ module _ (sig : Sig) where
         → wilds (all_subpatterns (patterns_of sig ts)) ≡ map wild_of (all_pattern_wildcards sig ts)
     wilds-patterns_of before no_trees h = refl
     wilds-patterns_of before (more_trees t ts) h =
-        let p = nil-append (pattern_faults sig before t)
+        let p = both-empty (pattern_faults sig before t)
         (all_pattern_faults sig (before ++ pattern_wildcards sig t) ts) h in
         wilds-append (subpatterns (pattern_of sig t)) (all_subpatterns (patterns_of sig ts))
         ∙ (λ i. wilds-pattern_of before t p.0 i ++ wilds-patterns_of (before ++ pattern_wildcards sig t) ts p.1 i)

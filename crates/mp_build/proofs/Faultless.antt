@@ -4,11 +4,6 @@ use Rattle.mp_parser.specs.declared.place.Place.{Place}
 use Rattle.mp_build.specs.declared.fault.TextKind.{TextKind}
 use Rattle.mp_build.specs.Checks.{fault_if}
 
--- two lists without items
-pub nil-append : {X : Type 0} (a b : List X) → a ++ b ≡ [] → (a ≡ []) × (b ≡ [])
-nil-append [] b h = (refl, h)
-nil-append (x ∷ a) b h = cc
-
 -- two lists without items are one without items
 pub nil-both : {X : Type 0} (a b : List X) → a ≡ [] → b ≡ [] → a ++ b ≡ []
 nil-both a b h k = ap (λ l. l ++ b) h ∙ k

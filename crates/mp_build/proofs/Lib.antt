@@ -1,4 +1,4 @@
-mod Numbers
+pub mod Numbers
 pub mod Applied
 pub mod Counts
 mod Plain

@@ -1,7 +1,19 @@
--- Decimal numbers, cut at a bound.
-use Rattle.std.proofs.Common.{◌≡◌, ℕ, ◌+◌, ◌*◌, ◌-◌, ◌≤◌, min, List, [], ◌∷◌, arith, inl, inr, ap}
+-- Decimal numbers, in two parts and cut at a bound.
+use Rattle.std.proofs.Common.{◌≡◌, ℕ, ◌+◌, ◌*◌, ◌-◌, ◌≤◌, ◌<◌, min, true, List, [], ◌∷◌, ◌++◌}
+use Rattle.std.proofs.Common.{arith, rules, inl, inr, ap, refl}
+use Rattle.std.specs.Char.{is_ascii_digit}
 use Rattle.std.proofs.lemmas.Bool.{cases_lt}
 use Rattle.mp_build.specs.Names.{number_after}
+
+-- a digit's byte is one
+pub is_ascii_digit-digit : (n : ℕ) → n < 10 → is_ascii_digit (48 + n) ≡ true
+is_ascii_digit-digit n small = search (rules, small)
+
+-- digits in two parts
+pub number_after-append : (n : ℕ) (front back : List ℕ)
+    → number_after n (front ++ back) ≡ number_after (number_after n front) back
+number_after-append n [] back = refl
+number_after-append n (d ∷ ds) back = number_after-append (10 * n + (d - 48)) ds back
 
 -- further digits make a number no smaller
 pub number_after-grows : (n : ℕ) (digits : List ℕ) → n ≤ number_after n digits

@@ -9,6 +9,7 @@ use Rattle.std.proofs.lemmas.List.Folds.{list_any-append}
 use Rattle.std.proofs.lemmas.Bool.{ltb-false, not-false, or_parts}
 use Rattle.mp_term.specs.Signature.{Sig, all_in_order, has_name, kind_names}
 use Rattle.mp_term.specs.Normal.{normal}
+use Rattle.mp_term.proofs.ListLaws.{both-empty}
 use Rattle.mp_pattern.specs.declared.limits.TheConstants.{MAX_OPERAND_NODES, MAX_ATOMS, MAX_NUMBER}
 use Rattle.mp_pattern.specs.CondTree as cond
 use Rattle.mp_pattern.specs.CondTree.{Operand, var, ground, fixed, count, size, Cond, amounts, less, free, of_kind}
@@ -44,7 +45,7 @@ use Rattle.mp_build.specs.ConditionChecks.{has_large_amount, has_large_operand, 
 use Rattle.mp_build.specs.ConditionChecks.{unbound_faults, sequence_faults}
 use Rattle.mp_build.specs.ConditionChecks.{property_faults, operand_faults, amount_faults, atom_faults, literal_faults}
 use Rattle.mp_build.specs.ConditionChecks.{literals_faults, condition_faults}
-use Rattle.mp_build.proofs.Faultless.{nil-append, nil-fault_if}
+use Rattle.mp_build.proofs.Faultless.{nil-fault_if}
 use Rattle.mp_build.proofs.Words.{is_name-IsName, IsName-is_name}
 use Rattle.mp_build.proofs.SoundLaws.{held-position, sound-term_of}
 
@@ -159,37 +160,37 @@ module _ (sig : Sig) (ordered : all_in_order sig.ops ≡ true) (scope : Scope) w
       → (is_large_operand t || (is_large_operand u || false)) ≡ false
       → IsScopedOperand sig scope (operand_of sig t) × IsScopedOperand sig scope (operand_of sig u)
   good-two t u first second none small =
-      let p = nil-append (operand_faults sig scope t) (operand_faults sig scope u) none in
+      let p = both-empty (operand_faults sig scope t) (operand_faults sig scope u) none in
       let o = or_parts (is_large_operand t) (is_large_operand u || false) small in
       (good-operand t first p.0 o.0, good-operand u second p.1 (or_parts (is_large_operand u) false o.1).0)
 
   good-atom : (a : Atom) → AtomHasNames a → atom_faults sig scope a ≡ [] → has_large_operand a ≡ false
       → IsScoped sig scope (atom_of sig a)
   good-atom (Compare m s n) names none small =
-      let p = nil-append (amount_faults sig scope m) (amount_faults sig scope n) none in
+      let p = both-empty (amount_faults sig scope m) (amount_faults sig scope n) none in
       let o = or_parts (has_large_amount m) (has_large_amount n)
       (sym (list_any-append is_large_operand (conditions.amount_operands m) (conditions.amount_operands n))
       ∙ small) in
       (good-amount m names.0 p.0 o.0, good-amount n names.1 p.1 o.1)
   good-atom (Relate Same t u) names none small = good-two t u names.0 names.1 none small
   good-atom (Relate Less t u) names none small =
-      let p = nil-append (operand_faults sig scope t ++ single_faults scope t)
+      let p = both-empty (operand_faults sig scope t ++ single_faults scope t)
       (operand_faults sig scope u ++ single_faults scope u) none in
-      let first = nil-append (operand_faults sig scope t) (single_faults scope t) p.0 in
-      let second = nil-append (operand_faults sig scope u) (single_faults scope u) p.1 in
+      let first = both-empty (operand_faults sig scope t) (single_faults scope t) p.0 in
+      let second = both-empty (operand_faults sig scope u) (single_faults scope u) p.1 in
       let o = or_parts (is_large_operand t) (is_large_operand u || false) small in (
         (good-operand t names.0 first.0 o.0, good-single t first.1),
         (good-operand u names.1 second.0 (or_parts (is_large_operand u) false o.1).0, good-single u second.1),
       )
   good-atom (Relate Free t u) names none small = good-two t u names.0 names.1 none small
   good-atom (Test properties.Kind t n) names none small =
-      let p = nil-append (operand_faults sig scope t) (property_faults sig properties.Kind n) none in (
+      let p = both-empty (operand_faults sig scope t) (property_faults sig properties.Kind n) none in (
         good-operand t names.0 p.0 (or_parts (is_large_operand t) false small).0,
         held-position (bytes_eq n.text)
             (kind_names sig) (nil-fault_if (is_none (kind_number sig n.text)) kinds.UnknownKind n.place p.1),
       )
   good-atom (Test properties.Head t n) names none small =
-      let p = nil-append (operand_faults sig scope t) (property_faults sig properties.Head n) none in (
+      let p = both-empty (operand_faults sig scope t) (property_faults sig properties.Head n) none in (
         good-operand t names.0 p.0 (or_parts (is_large_operand t) false small).0,
         held-position (has_name n.text) sig.ops
             (nil-fault_if (is_none (op_number sig n.text)) kinds.UnknownOp n.place p.1),
@@ -240,7 +241,7 @@ module _ (sig : Sig) (ordered : all_in_order sig.ops ≡ true) (scope : Scope) w
         → AreScoped sig scope (literals_of sig ls)
     good-literals_of room no_literals fit names none small = tt
     good-literals_of room (more_literals l ls) fit names none small =
-        let p = nil-append (literal_faults sig scope l) (literals_faults sig scope ls) none in
+        let p = both-empty (literal_faults sig scope l) (literals_faults sig scope ls) none in
         let o = or_parts (list_any has_large_operand (literal_atoms l))
         (list_any has_large_operand (literals_atoms ls))
         (sym (list_any-append has_large_operand (literal_atoms l) (literals_atoms ls)) ∙ small) in
@@ -251,7 +252,7 @@ module _ (sig : Sig) (ordered : all_in_order sig.ops ≡ true) (scope : Scope) w
         → AreScoped sig scope (alternatives_of sig c)
     good-alternatives_of room no_alternatives fit names none small = tt
     good-alternatives_of room (more_alternatives a c) fit names none small =
-        let p = nil-append (literals_faults sig scope a) (condition_faults sig scope c) none in
+        let p = both-empty (literals_faults sig scope a) (condition_faults sig scope c) none in
         let o = or_parts (list_any has_large_operand (literals_atoms a)) (list_any has_large_operand (atoms c))
         (sym (list_any-append has_large_operand (literals_atoms a) (atoms c)) ∙ small) in (
           good-all_of (literals_of sig a) (some-literals_of a fit.0)

@@ -1,7 +1,7 @@
 -- What the checks let through is sound.
 use Rattle.std.specs.Prelude.{if◌then◌else◌}
 use Rattle.mp_build.proofs.Words.{first-of, second-of, is_name-IsName}
-use Rattle.mp_build.proofs.Faultless.{nil-append, nil-fault_if, some-behind}
+use Rattle.mp_build.proofs.Faultless.{nil-fault_if, some-behind}
 use Rattle.std.proofs.Common.{append-nil, cond, sym, eqb, ◌&&◌, ◌≡◌, ◌≤◌, ◌<◌, ◌+◌, ℕ, zero, suc, Bool, true, false}
 use Rattle.std.proofs.Common.{◌||◌}
 use Rattle.std.proofs.Common.{leb, ltb, rules, List, [], ◌∷◌, ◌++◌, map, length, Option, Some, None, refl, ap, ◌∙◌}
@@ -24,6 +24,7 @@ use Rattle.mp_term.specs.Normal.{normal}
 use Rattle.mp_term.proofs.NormalSize.{normal-normal, node_count-normal, depth-normal}
 use Rattle.mp_term.proofs.WellFormedNormal.{wf-normal}
 use Rattle.mp_term.specs.Names.{are_distinct}
+use Rattle.mp_term.proofs.ListLaws.{both-empty}
 use Rattle.mp_pattern.specs.PatternTree as pattern
 use Rattle.mp_pattern.specs.Firsts.{firsts_after, is_known, add_new}
 use Rattle.mp_pattern.specs.Normal.{is_loose, flattened, in_order, normal_pattern, normal_patterns}
@@ -173,13 +174,13 @@ module _ (sig : Sig) where
     pub well_formed-term_of : (t : Tree) → term_faults sig t ≡ [] → well_formed sig (term_of sig t) ≡ true
     well_formed-term_of (Symbol w) h = refl
     well_formed-term_of (Apply f args) h =
-        let p = nil-append (head_faults (allows (length (syntax.tree_list args))) f (op_named sig f.text))
+        let p = both-empty (head_faults (allows (length (syntax.tree_list args))) f (op_named sig f.text))
         (all_term_faults sig args) h in
         let d = found-head sig (allows (length (syntax.tree_list args))) f (op_number sig f.text) p.0 in
         rw (d.held, length-terms_of args, d.passed) (all_well_formed-terms_of args p.1)
     well_formed-term_of (InfixOf opened sign operands) h =
         let at_sign = sign_faults sign (op_signed sig sign.text) in
-        let p = nil-append (arity_faults (allows (length (syntax.tree_list operands))) opened (op_signed sig sign.text))
+        let p = both-empty (arity_faults (allows (length (syntax.tree_list operands))) opened (op_signed sig sign.text))
         (term_operand_faults sig at_sign operands) h in
         let q = nil-term_operands sig at_sign operands p.1 in
         let d = found-infix sig (allows (length (syntax.tree_list operands))) opened sign
@@ -193,7 +194,7 @@ module _ (sig : Sig) where
     all_well_formed-terms_of : (ts : Trees) → all_term_faults sig ts ≡ [] → all_well_formed sig (terms_of sig ts) ≡ true
     all_well_formed-terms_of no_trees h = refl
     all_well_formed-terms_of (more_trees t ts) h =
-        let p = nil-append (term_faults sig t) (all_term_faults sig ts) h in
+        let p = both-empty (term_faults sig t) (all_term_faults sig ts) h in
         rw (well_formed-term_of t p.0) (all_well_formed-terms_of ts p.1)
 
   mutual
@@ -290,13 +291,13 @@ module _ (sig : Sig) where
         → holds_ops sig (pattern_of sig p) ≡ true
     holds_ops-pattern_of before (Symbol w) h = refl
     holds_ops-pattern_of before (Apply f args) h =
-        let p = nil-append (head_faults (allows_args sig args) f (op_named sig f.text))
+        let p = both-empty (head_faults (allows_args sig args) f (op_named sig f.text))
         (all_pattern_faults sig before args) h in
         rw ((found-head sig (allows_args sig args) f (op_number sig f.text) p.0).held)
         (all_hold_ops-patterns_of before args p.1)
     holds_ops-pattern_of before (InfixOf opened sign operands) h =
         let at_sign = sign_faults sign (op_signed sig sign.text) in
-        let p = nil-append (arity_faults (allows_args sig operands) opened (op_signed sig sign.text))
+        let p = both-empty (arity_faults (allows_args sig operands) opened (op_signed sig sign.text))
         (pattern_operand_faults sig before at_sign operands) h in
         let q = nil-pattern_operands sig before at_sign operands p.1 in
         rw ((found-infix sig (allows_args sig operands) opened sign (sign_number sig sign.text) p.0 q.0).held)
@@ -310,7 +311,7 @@ module _ (sig : Sig) where
         → all_hold_ops sig (patterns_of sig ps) ≡ true
     all_hold_ops-patterns_of before no_trees h = refl
     all_hold_ops-patterns_of before (more_trees p ps) h =
-        let q = nil-append (pattern_faults sig before p)
+        let q = both-empty (pattern_faults sig before p)
         (all_pattern_faults sig (before ++ pattern_wildcards sig p) ps) h in
         rw (holds_ops-pattern_of before p q.0) (all_hold_ops-patterns_of (before ++ pattern_wildcards sig p) ps q.1)
 
@@ -331,11 +332,11 @@ module _ (sig : Sig) where
     HasSymbols-term_of (Symbol w) names h = IsSymbol-symbol_faults w names h
     HasSymbols-term_of (Apply f args) names h =
         HaveSymbols-terms_of args names.1
-        (nil-append (head_faults (allows (length (syntax.tree_list args))) f (op_named sig f.text))
+        (both-empty (head_faults (allows (length (syntax.tree_list args))) f (op_named sig f.text))
         (all_term_faults sig args) h).1
     HasSymbols-term_of (InfixOf opened sign operands) names h =
         let at_sign = sign_faults sign (op_signed sig sign.text) in
-        let p = nil-append (arity_faults (allows (length (syntax.tree_list operands))) opened (op_signed sig sign.text))
+        let p = both-empty (arity_faults (allows (length (syntax.tree_list operands))) opened (op_signed sig sign.text))
         (term_operand_faults sig at_sign operands) h in
         HaveSymbols-terms_of operands names.1 (nil-term_operands sig at_sign operands p.1).1
     HasSymbols-term_of (Wild w) names h = absurd (some-behind (fault_if (kind_unknown sig w.kind) _ w.place) _ h)
@@ -346,7 +347,7 @@ module _ (sig : Sig) where
     HaveSymbols-terms_of : (ts : Trees) → HaveNames ts → all_term_faults sig ts ≡ [] → HaveSymbols sig (terms_of sig ts)
     HaveSymbols-terms_of no_trees names h = tt
     HaveSymbols-terms_of (more_trees t ts) names h =
-        let p = nil-append (term_faults sig t) (all_term_faults sig ts) h in
+        let p = both-empty (term_faults sig t) (all_term_faults sig ts) h in
         (HasSymbols-term_of t names.0 p.0, HaveSymbols-terms_of ts names.1 p.1)
 
   -- ---- wildcards
@@ -367,7 +368,7 @@ module _ (sig : Sig) where
 
       p : (fault_if (nat_lt MAX_COUNT (number_of count.text)) TooMany count.place ≡ [])
           × (fault_if (eqb (number_of count.text) 0 && not more) BadCount count.place ≡ [])
-      p = nil-append (fault_if (nat_lt MAX_COUNT (number_of count.text)) TooMany count.place)
+      p = both-empty (fault_if (nat_lt MAX_COUNT (number_of count.text)) TooMany count.place)
           (fault_if (eqb (number_of count.text) 0 && not more) BadCount count.place) h
 
       few : number_of count.text ≤ MAX_COUNT
@@ -404,7 +405,7 @@ module _ (sig : Sig) where
       → kind_unknown sig w.wildcard.kind ≡ false
   known-wildcard_faults before w h =
       nil-fault_if (kind_unknown sig w.wildcard.kind) _ w.wildcard.place
-      (nil-append (fault_if (kind_unknown sig w.wildcard.kind) _ w.wildcard.place)
+      (both-empty (fault_if (kind_unknown sig w.wildcard.kind) _ w.wildcard.place)
       (fault_if (list_any (differs w) before) _ w.wildcard.place) h).0
 
   pub pattern_list-patterns_of : (ps : Trees)
@@ -438,7 +439,7 @@ module _ (sig : Sig) where
           → pattern_faults sig before p ≡ [] → IsFormed sig (pattern_of sig p)
       IsFormed-pattern_of before (Symbol w) names small h = IsSymbol-symbol_faults w names h
       IsFormed-pattern_of before (Apply f args) names small h =
-          let p = nil-append (head_faults (allows_args sig args) f (op_named sig f.text))
+          let p = both-empty (head_faults (allows_args sig args) f (op_named sig f.text))
           (all_pattern_faults sig before args) h in (
             allowed-found (op_number sig f.text) args
                 (found-head sig (allows_args sig args) f (op_number sig f.text) p.0),
@@ -447,7 +448,7 @@ module _ (sig : Sig) where
           )
       IsFormed-pattern_of before (InfixOf opened sign operands) names small h =
           let at_sign = sign_faults sign (op_signed sig sign.text) in
-          let p = nil-append (arity_faults (allows_args sig operands) opened (op_signed sig sign.text))
+          let p = both-empty (arity_faults (allows_args sig operands) opened (op_signed sig sign.text))
           (pattern_operand_faults sig before at_sign operands) h in
           let q = nil-pattern_operands sig before at_sign operands p.1 in (
             allowed-found (sign_number sig sign.text) operands
@@ -461,15 +462,15 @@ module _ (sig : Sig) where
             names.name,
       )
       IsFormed-pattern_of before (Counted w count more) names small h =
-          let p = nil-append (wildcard_faults sig before (with_count w count more)) (count_faults count more) h in (
+          let p = both-empty (wildcard_faults sig before (with_count w count more)) (count_faults count more) h in (
             sound-kind w.kind (counted_shape (count_of count) more) (sound-counted count more p.1)
                 (known-wildcard_faults before (with_count w count more) p.0),
             IsVariable-variable_of w.name names.0.name,
           )
       IsFormed-pattern_of before (Optional w others default) names small h =
-          let p = nil-append (wildcard_faults sig before (with_default_form sig w others default))
+          let p = both-empty (wildcard_faults sig before (with_default_form sig w others default))
           (default_faults sig others default) h in
-          let q = nil-append (flat_map (term_wildcard_faults sig) others) (term_faults sig default) p.1 in
+          let q = both-empty (flat_map (term_wildcard_faults sig) others) (term_faults sig default) p.1 in
           let few : nodes default ≤ MAX_DEFAULT_NODES =
           ltb-false MAX_DEFAULT_NODES (nodes default)
           (or_parts (ltb MAX_DEFAULT_NODES (nodes default)) (has_large_default default) small).0 in
@@ -480,7 +481,7 @@ module _ (sig : Sig) where
           → some_large_default ps ≡ false → all_pattern_faults sig before ps ≡ [] → AreFormed sig (patterns_of sig ps)
       AreFormed-patterns_of before no_trees names small h = tt
       AreFormed-patterns_of before (more_trees p ps) names small h =
-          let q = nil-append (pattern_faults sig before p)
+          let q = both-empty (pattern_faults sig before p)
           (all_pattern_faults sig (before ++ pattern_wildcards sig p) ps) h in
           let o = or_parts (has_large_default p) (some_large_default ps) small in (
             IsFormed-pattern_of before p names.0 o.0 q.0,
@@ -604,7 +605,7 @@ pub record Named (most : ℕ) (earlier : List (List ℕ)) (large : Bool) (name :
 pub named-by : (most : ℕ) (earlier : List (List ℕ)) (large : Bool) (name : Spot)
     → name_faults most earlier large name ≡ [] → Named most earlier large name
 named-by most earlier large name h =
-    let p = nil-append (fault_if (is_among name.text earlier) _ name.place)
+    let p = both-empty (fault_if (is_among name.text earlier) _ name.place)
     (fault_if (leb most (length earlier) || large) _ name.place) h in
     let o = or_parts (leb most (length earlier)) large
     (nil-fault_if (leb most (length earlier) || large) _ name.place p.1) in
@@ -621,7 +622,7 @@ sound-pattern sig ordered p names small none fits =
     let o = or_parts (ltb MAX_PATTERN_NODES (nodes p))
     (ltb MAX_VARIABLES (length (variable_names p)) || has_large_default p) small in
     let l = or_parts (ltb MAX_VARIABLES (length (variable_names p))) (has_large_default p) o.1 in
-    let q = nil-append (loose_faults p) (pattern_faults sig [] p) none in
+    let q = both-empty (loose_faults p) (pattern_faults sig [] p) none in
     let nodes_few : nodes p ≤ MAX_PATTERN_NODES = ltb-false MAX_PATTERN_NODES (nodes p) o.0 in
     let names_few : length (variable_names p) ≤ MAX_VARIABLES =
     ltb-false MAX_VARIABLES (length (variable_names p)) l.0 in

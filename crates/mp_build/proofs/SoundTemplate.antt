@@ -4,6 +4,7 @@ use Rattle.std.proofs.Common.{Option, refl, sym, ap, ◌∙◌, arith}
 use Rattle.std.specs.Prelude.{slice_get, unwrap_or}
 use Rattle.std.proofs.lemmas.Bool.{ltb-false, not-false, or_parts}
 use Rattle.mp_term.specs.Signature.{Sig, holds_of}
+use Rattle.mp_term.proofs.ListLaws.{both-empty}
 use Rattle.mp_pattern.specs.declared.limits.TheConstants.{MAX_PATTERN_NODES, MAX_DEPTH}
 use Rattle.mp_pattern.specs.Depth.{template_depth, greatest_template_depth}
 use Rattle.mp_pattern.specs.Extent as extents_of
@@ -26,7 +27,7 @@ use Rattle.mp_build.specs.Scope as scope
 use Rattle.mp_build.specs.Scope.{is_bound, is_bound_sequence, extent_in}
 use Rattle.mp_build.specs.TemplateChecks.{is_large_template, loose_template_faults, allows_given, template_faults}
 use Rattle.mp_build.specs.TemplateChecks.{template_operand_faults, all_template_faults, whole_template_faults}
-use Rattle.mp_build.proofs.Faultless.{nil-append, nil-fault_if}
+use Rattle.mp_build.proofs.Faultless.{nil-fault_if}
 use Rattle.mp_build.proofs.SoundLaws.{Found, found-head, found-infix, IsSymbol-symbol_faults}
 use Rattle.mp_build.proofs.Defaults.{has_term-term_faults}
 
@@ -78,8 +79,8 @@ nil-template_operands : (vs : List scope.Variable) (sig : Sig) (at_sign : List T
     → template_operand_faults vs sig at_sign ts ≡ [] → (at_sign ≡ []) × (all_template_faults vs sig ts ≡ [])
 nil-template_operands vs sig at_sign no_trees h = (h, refl)
 nil-template_operands vs sig at_sign (more_trees t ts) h =
-    let p = nil-append (template_faults vs sig t) (at_sign ++ all_template_faults vs sig ts) h in
-    let q = nil-append at_sign (all_template_faults vs sig ts) p.1 in
+    let p = both-empty (template_faults vs sig t) (at_sign ++ all_template_faults vs sig ts) h in
+    let q = both-empty at_sign (all_template_faults vs sig ts) p.1 in
     (q.0, ap (λ l. l ++ all_template_faults vs sig ts) p.0 ∙ q.1)
 
 -- a variable that is named is bound
@@ -111,7 +112,7 @@ module _ (sig : Sig) (vs : List scope.Variable) (q : pattern.Pattern)
         ≡ templates_extent (extent_named q) (templates_of sig ts)
     extent-templates_of no_trees names h = refl
     extent-templates_of (more_trees t ts) names h =
-        let p = nil-append (template_faults vs sig t) (all_template_faults vs sig ts) h in
+        let p = both-empty (template_faults vs sig t) (all_template_faults vs sig ts) h in
         λ i. sum_extent (extent-template_of t names.0 p.0 i) (extent-templates_of ts names.1 p.1 i)
 
     allowed : (number : Option ℕ) (ts : Trees) → HaveNames ts → all_template_faults vs sig ts ≡ []
@@ -131,7 +132,7 @@ module _ (sig : Sig) (vs : List scope.Variable) (q : pattern.Pattern)
           → IsFormedTemplate sig q (template_of sig t)
       formed-template_of (Symbol w) names h = IsSymbol-symbol_faults sig w names h
       formed-template_of (Apply f args) names h =
-          let p = nil-append (head_faults (allows_given vs sig args) f (op_named sig f.text))
+          let p = both-empty (head_faults (allows_given vs sig args) f (op_named sig f.text))
           (all_template_faults vs sig args) h in (
             allowed (op_number sig f.text) args names.1 p.1
                 (found-head sig (allows_given vs sig args) f (op_number sig f.text) p.0),
@@ -139,7 +140,7 @@ module _ (sig : Sig) (vs : List scope.Variable) (q : pattern.Pattern)
           )
       formed-template_of (InfixOf opened sign operands) names h =
           let at_sign = sign_faults sign (op_signed sig sign.text) in
-          let p = nil-append (arity_faults (allows_given vs sig operands) opened (op_signed sig sign.text))
+          let p = both-empty (arity_faults (allows_given vs sig operands) opened (op_signed sig sign.text))
           (template_operand_faults vs sig at_sign operands) h in
           let r = nil-template_operands vs sig at_sign operands p.1 in (
             allowed (sign_number sig sign.text) operands names.1 r.1
@@ -156,7 +157,7 @@ module _ (sig : Sig) (vs : List scope.Variable) (q : pattern.Pattern)
           → AreFormedTemplates sig q (templates_of sig ts)
       formed-templates_of no_trees names h = tt
       formed-templates_of (more_trees t ts) names h =
-          let p = nil-append (template_faults vs sig t) (all_template_faults vs sig ts) h in
+          let p = both-empty (template_faults vs sig t) (all_template_faults vs sig ts) h in
           (formed-template_of t names.0 p.0, formed-templates_of ts names.1 p.1)
 
     -- a whole template without faults is sound
@@ -165,7 +166,7 @@ module _ (sig : Sig) (vs : List scope.Variable) (q : pattern.Pattern)
     sound-template_of t names fits small none =
         let o = or_parts (ltb MAX_PATTERN_NODES (nodes t)) (has_large_default t) small in
         let few : nodes t ≤ MAX_PATTERN_NODES = ltb-false MAX_PATTERN_NODES (nodes t) o.0 in
-        let p = nil-append (loose_template_faults vs t) (template_faults vs sig t) none in
+        let p = both-empty (loose_template_faults vs t) (template_faults vs sig t) none in
         record {
           formed = formed-template_of t names p.1;
           one_term = one t names p.0 p.1;

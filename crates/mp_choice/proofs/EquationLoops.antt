@@ -12,12 +12,14 @@ use Rattle.std.proofs.lemmas.List.{length-drop, take_at, drop_at, length-take-le
 use Rattle.std.proofs.lemmas.List.Elements.{All-tail}
 use Rattle.mp_term.proofs.ListingLaws.{one_way}
 use Rattle.mp_term.specs.Search.{In}
-use Rattle.mp_choice.specs.Listed.{number_lists, above, IsFirst, HasNone}
+use Rattle.mp_term.proofs.TestLaws.{less-from}
+use Rattle.mp_term.specs.Listing.{above}
+use Rattle.mp_choice.specs.Listed.{number_lists, IsFirst, HasNone}
 use Rattle.mp_choice.specs.Equations.{weighed}
 use Rattle.mp_choice.specs.EquationSteps.{IsLastLight, IsNextLight, Rises, IsSolutionFrom, FillsLast}
 use Rattle.mp_choice.proofs.Lexicographic.{lex, not_less_cases, less_or_not, not_less_trans}
 use Rattle.mp_choice.proofs.Listed.{in-number_lists}
-use Rattle.mp_choice.proofs.Tests.{filter_less, is_less}
+use Rattle.mp_choice.proofs.Tests.{filter_less}
 use Rattle.mp_choice.proofs.EquationLaws.{last_light-nil, last_light-cons, next_light-rise, next_light-from, number_le}
 
 weighed-drop : (cs ns : List ℕ) (j : ℕ) → length ns ≡ length cs → j < length cs
@@ -247,7 +249,7 @@ lists_left-falls : (cs : List ℕ) (total : ℕ) (old new : List ℕ) → All (�
 unfolding lists_left
 lists_left-falls cs total old new p e h l =
     filter_less (λ y. is_lt (lex old y)) (λ y. is_lt (lex new y))
-    (λ y m. ap is_lt (nat_list_cmp_total.trans old new y l (is_less (lex new y) m)))
+    (λ y m. ap is_lt (nat_list_cmp_total.trans old new y l (less-from (lex new y) m)))
     (number_lists total (length cs)) new (in-light cs new total e p h) (ap is_lt l)
     (ap is_lt (tied_itself nat_list_cmp_total new))
 

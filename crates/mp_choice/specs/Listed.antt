@@ -1,8 +1,8 @@
 -- The list that a generator lists, as a value, and the place in it where the generator stands.
-use Rattle.std.specs.Prelude.{◌≡◌, ℕ, List, ◌∷◌, [], filter, true, Option, Some, None}
+use Rattle.std.specs.Prelude.{◌≡◌, ℕ, List, ◌∷◌, [], true, Option, Some, None}
 use Rattle.std.specs.declared.cmp.Ordering.{Ordering}
 use Rattle.std.specs.declared.cmp.Ordering.TheVariants.{Less}
-use Rattle.std.specs.Ordering.{is_lt}
+use Rattle.mp_term.specs.Listing.{above}
 use Rattle.mp_term.specs.Search.{words}
 use Rattle.mp_term.specs.Pieces.{count_to}
 use Rattle.mp_choice.specs.declared.stage.Stage.{Stage}
@@ -25,14 +25,10 @@ StandsAt P Standing x = P x
 StandsAt P Ended x = Unit {0}
 
 module _ {X : Type 0} (cmp : X → X → Ordering) where
-  -- the items above x
-  abbrev pub above : X → List X → List X
-  above x ys = filter (λ y. is_lt (cmp x y)) ys
-
   -- what is still to come of all, where a generator stands at x
   abbrev pub to_come_at : Stage → X → List X → List X
   to_come_at Before x all = all
-  to_come_at Standing x all = above x all
+  to_come_at Standing x all = above cmp x all
   to_come_at Ended x all = []
 
 -- from the place at `old` a step came to the item `new`, and what is above it is still to come

@@ -16,6 +16,7 @@ use Rattle.mp_cond.specs.Verdict.{same_form, is_in_form, is_bound_in_form, is_se
 use Rattle.mp_cond.specs.Complete.{AreFirst, IsComplete}
 use Rattle.mp_cond.proofs.ExtensionLaws.{form_of-value_in}
 use Rattle.mp_cond.proofs.SettledLaws.{with_value, later_value, value_of-bound_at}
+use Rattle.mp_term.proofs.ListLaws.{some-same}
 
 -- the place of a known name
 record Found (xs : List Variable) (y : List ℕ) : Type 0 where
@@ -38,9 +39,6 @@ found (x ∷ xs) y h =
 form-same : (f g : Form) → Some f ≡ Some g → f ≡ g
 form-same f g e = cc
 
-some-same : (m n : ℕ) → Some m ≡ Some n → m ≡ n
-some-same m n e = cc
-
 -- a name whose variables are unbound has no value
 value_of-unbound : (t : Table) (es : List TrailEntry) (y : List ℕ) (xs : List Variable) (k : ℕ)
     → ((i : ℕ) (x : Variable) → slice_get xs i ≡ Some x → same_name y x.name ≡ true → last_value es (k + i) ≡ None)
@@ -60,7 +58,7 @@ value_of-unbound t es y (x ∷ xs) k h =
       | false ↦ λ e. later_value t es y x (bindings_from t es (suc k) xs) (last_value es k) e ∙ rest
     ] refl
 
-same_form-itself : (f : Form) → same_form f f ≡ true
+pub same_form-itself : (f : Form) → same_form f f ≡ true
 same_form-itself one_form = refl
 same_form-itself seq_form = refl
 same_form-itself bag_form = refl

@@ -1,6 +1,6 @@
 -- A condition whose variables are bound in their forms holds of each extension of a trail alike.
-use Rattle.std.proofs.Common.{◌≡◌, ℕ, Bool, true, false, List, [], ◌∷◌, refl, ap, sym, ◌∙◌, subst}
-use Rattle.std.specs.Prelude.{Option, Some, None, IsSomeAnd, option_map, position, slice_get, if◌then◌else◌}
+use Rattle.std.proofs.Common.{◌≡◌, ℕ, true, List, [], ◌∷◌, refl, ap, sym, ◌∙◌, subst}
+use Rattle.std.specs.Prelude.{Option, Some, None, IsSomeAnd, option_map, position, slice_get}
 use Rattle.std.specs.List.{AllByRecursion, list_all}
 use Rattle.std.specs.Ordering.{is_eq}
 use Rattle.std.proofs.lemmas.Bool.{and_parts}
@@ -18,6 +18,7 @@ use Rattle.mp_pattern.proofs.NameLaws.{same_name-is}
 use Rattle.mp_table.specs.Table.{Table}
 use Rattle.mp_subst.specs.Bound.{Bound, value_in}
 use Rattle.mp_subst.specs.Trail.{Trail, last_value, subst_in}
+use Rattle.mp_subst.proofs.TrailLaws.{some_same}
 use Rattle.mp_cond.specs.Verdict.{same_form, is_in_form, is_bound_in_form, is_settled, are_settled}
 use Rattle.mp_cond.specs.Extension.{Extends}
 use Rattle.mp_cond.proofs.AgreeLaws.{Agrees, holds-agree}
@@ -46,21 +47,17 @@ form_of-value_in t b = by_form b.form b.wrap
 some-same : (v w : Value) → Some v ≡ Some w → v ≡ w
 some-same v w e = cc
 
-if_some : (b : Bool) (v w : Value) → (if b then Some v else None) ≡ Some w → v ≡ w
-if_some true v w e = some-same v w e
-if_some false v w e = cc
-
 -- a value that merges into one of its own form is that one
 merge-form : (v w : Value) → form_of v ≡ form_of w → merge v w ≡ Some w → v ≡ w
-merge-form (one t) (one u) f e = if_some (is_eq (tree_cmp t u)) (one t) (one u) e
+merge-form (one t) (one u) f e = some_same (is_eq (tree_cmp t u)) (one t) (one u) e
 merge-form (one t) (seq us) f e = cc
 merge-form (one t) (bag us) f e = cc
 merge-form (seq ts) (one u) f e = cc
-merge-form (seq ts) (seq us) f e = if_some _ (seq ts) (seq us) e
+merge-form (seq ts) (seq us) f e = some_same _ (seq ts) (seq us) e
 merge-form (seq ts) (bag us) f e = cc
 merge-form (bag ts) (one u) f e = cc
 merge-form (bag ts) (seq us) f e = cc
-merge-form (bag ts) (bag us) f e = if_some _ (bag ts) (bag us) e
+merge-form (bag ts) (bag us) f e = some_same _ (bag ts) (bag us) e
 
 -- where a settled variable stands, and what it is bound to
 record Place (p : Plan) (trail : Trail) (o : Option ℕ) : Type 0 where

@@ -5,12 +5,12 @@ use Rattle.std.specs.List.{AllByRecursion, list_all}
 use Rattle.std.proofs.lemmas.Bool.{and_parts}
 use Rattle.std.proofs.lemmas.Option.{get_or_from_slice_get}
 use Rattle.mp_term.specs.Tree.{Tree, symbol}
-use Rattle.mp_term.proofs.ListLaws.{bool_same}
 use Rattle.mp_term.proofs.SignatureLaws.{position-first, position-behind}
+use Rattle.mp_term.proofs.ListLaws.{some-same}
 use Rattle.mp_pattern.specs.CondTree.{Operand}
 use Rattle.mp_pattern.specs.Plan.{Variable}
 use Rattle.mp_pattern.specs.Value.{Subst, same_name, value_of}
-use Rattle.mp_pattern.proofs.NameLaws.{same_name-is, same_name-itself}
+use Rattle.mp_pattern.proofs.NameLaws.{same_name-swap}
 use Rattle.mp_table.specs.Table.{Table, IsTable, term_at, rank_of}
 use Rattle.mp_table.specs.declared.rank.Rank.{Rank}
 use Rattle.mp_table.proofs.RankLaws.{slice_get-rank_of}
@@ -20,20 +20,11 @@ use Rattle.mp_cond.specs.declared.ranks.Ranks.{Ranks}
 use Rattle.mp_cond.specs.Verdict.{is_settled, IsHeld}
 use Rattle.mp_cond.specs.Ranked.{bound_at, subst_of, IsOperandIn}
 
-pub same_name-flip : (x y : List ℕ) → same_name x y ≡ same_name y x
-same_name-flip x y =
-    bool_same (same_name x y) (same_name y x)
-    (λ e. ap (λ z. same_name z x) (sym (same_name-is x y e)) ∙ same_name-itself x)
-    (λ e. ap (λ z. same_name z y) (sym (same_name-is y x e)) ∙ same_name-itself y)
-
 -- the position behind the first item
 record Moved (o : Option ℕ) (n : ℕ) : Type 0 where
   pub place : ℕ
   pub is : o ≡ Some place
   pub next : n ≡ place + 1
-
-some-same : (m n : ℕ) → Some m ≡ Some n → m ≡ n
-some-same m n e = cc
 
 moved : (o : Option ℕ) (n : ℕ) → option_map (λ i. i + 1) o ≡ Some n → Moved o n
 moved None n e = cc
@@ -48,13 +39,13 @@ module _ (t : Table) (es : List TrailEntry) (x : List ℕ) where
       → value_of (with_value y s o) x ≡ Some (value_in t b)
   first_value y s o b q e =
       ap (λ p. value_of (with_value y s p) x) e
-      ∙ ap (λ v. if v then Some (value_in t b) else value_of s x) (same_name-flip y.name x ∙ q)
+      ∙ ap (λ v. if v then Some (value_in t b) else value_of s x) (same_name-swap y.name x ∙ q)
 
   pub later_value : (y : Variable) (s : Subst) (o : Option Bound) → same_name x y.name ≡ false
       → value_of (with_value y s o) x ≡ value_of s x
   later_value y s None q = refl
   later_value y s (Some d) q =
-      ap (λ v. if v then Some (value_in t d) else value_of s x) (same_name-flip y.name x ∙ q)
+      ap (λ v. if v then Some (value_in t d) else value_of s x) (same_name-swap y.name x ∙ q)
 
   -- the value of the first variable of that name, where it is bound
   pub value_of-bindings : (xs : List Variable) (k n : ℕ) (b : Bound) → position (λ v. same_name x v.name) xs ≡ Some n

@@ -5,10 +5,10 @@ use Rattle.std.specs.Prelude.{filter, Some, slice_get, if◌then◌else◌}
 use Rattle.std.specs.List.{AllByRecursion}
 use Rattle.std.specs.List.Sorted.{IsStrictlySortedBy}
 use Rattle.std.specs.Ordering.{is_lt}
-use Rattle.std.specs.declared.cmp.Ordering.{Ordering}
-use Rattle.std.specs.declared.cmp.Ordering.TheVariants.{Less, Equal, Greater}
+use Rattle.std.specs.declared.cmp.Ordering.TheVariants.{Less}
 use Rattle.std.proofs.lemmas.Cmp.{tied_itself, lists_total}
 use Rattle.mp_term.proofs.SearchLaws.{from_in-filter}
+use Rattle.mp_term.proofs.TestLaws.{less-from}
 use Rattle.mp_pattern.specs.Fits.{Table}
 use Rattle.mp_pattern.specs.DerivationOrder.{table_cmp}
 use Rattle.mp_theory.specs.OneList.{Item, item_tables}
@@ -41,11 +41,6 @@ after-first j (i ∷ is) h e =
     let same : i ≡ j = cc in
     subst (λ k. items_after k.0 (i ∷ is) ≡ is) same (after-head i is h)
 
-lt-Less : (o : Ordering) → is_lt o ≡ true → o ≡ Less
-lt-Less Less h = refl
-lt-Less Equal h = cc
-lt-Less Greater h = cc
-
 -- those after an item that comes after W are those after it among those after W
 pub after-after : (W : Table) (j : Item) (is : List Item) → table_cmp W j.0 ≡ Less
     → items_after j.0 (items_after W is) ≡ items_after j.0 is
@@ -59,7 +54,7 @@ after-after W j (i ∷ is) h =
           → items_after j.0 (items_after W is) ≡ (if c then i ∷ items_after j.0 is else items_after j.0 is)) [
             | true ↦ λ f.
                 let above : table_cmp W i.0 ≡ Less =
-                (lists_total entry_cmp_total).trans W j.0 i.0 h (lt-Less (table_cmp j.0 i.0) f) in
+                (lists_total entry_cmp_total).trans W j.0 i.0 h (less-from (table_cmp j.0 i.0) f) in
                 let t : is_lt (table_cmp W i.0) ≡ true = ap is_lt above in
                 absurd (let x : false ≡ true = sym e ∙ t in cc)
             | false ↦ λ f. after-after W j is h
@@ -71,7 +66,7 @@ pub after-found : (W : Table) (j : Item) (is : List Item) → IsStrictlySortedBy
     → slice_get (items_after W is) 0 ≡ Some j → items_after j.0 is ≡ drop 1 (items_after W is)
 after-found W j is up e =
     let m = from_in-filter (λ i. is_lt (table_cmp W i.0)) j is (in-slice_get (items_after W is) 0 j e) in
-    sym (after-after W j is (lt-Less (table_cmp W j.0) m.1))
+    sym (after-after W j is (less-from (table_cmp W j.0) m.1))
     ∙ after-first j (items_after W is) (ascending-kept (λ i. is_lt (table_cmp W i.0)) is up) e
 
 -- what is kept of those after an item, and those after it of what is kept

@@ -10,9 +10,10 @@ use Rattle.mp_pattern.specs.Operands.{operands, HasConditionOver}
 use Rattle.mp_pattern.specs.Variables.{variables}
 use Rattle.mp_cond.specs.Verdict.{IsHeld}
 use Rattle.mp_term.specs.Normal.{IsNormal}
+use Rattle.mp_term.proofs.ListLaws.{all-split}
 use Rattle.mp_pattern.specs.Plan.{IsPlanOf}
 use Rattle.mp_table.specs.Table.{Table, IsTable, rank_of}
-use Rattle.mp_search.proofs.GroundsHeld.{both, grounds-held}
+use Rattle.mp_search.proofs.GroundsHeld.{grounds-held}
 use Rattle.mp_cursor.specs.declared.matched.Matched.{Matched}
 use Rattle.mp_cursor.specs.Matched.{IsMatched, IsDecidable}
 
@@ -32,12 +33,12 @@ can-decide m (Some c) o h = (o, operands-held m.table.now (operands c) h)
 pub pattern-held : (t : Table) (r : Rule) → AllByRecursion (λ u. IsSome (rank_of t u)) (rule_constants r)
     → AllByRecursion (λ u. IsSome (rank_of t u)) (pattern_constants r.pattern)
 pattern-held t r h =
-    (both (λ u. IsSome (rank_of t u)) (pattern_constants r.pattern) (condition_constants r.condition) h).0
+    (all-split (λ u. IsSome (rank_of t u)) (pattern_constants r.pattern) (condition_constants r.condition) h).0
 
 pub condition-held : (t : Table) (r : Rule) → AllByRecursion (λ u. IsSome (rank_of t u)) (rule_constants r)
     → AllByRecursion (λ u. IsSome (rank_of t u)) (condition_constants r.condition)
 condition-held t r h =
-    (both (λ u. IsSome (rank_of t u)) (pattern_constants r.pattern) (condition_constants r.condition) h).1
+    (all-split (λ u. IsSome (rank_of t u)) (pattern_constants r.pattern) (condition_constants r.condition) h).1
 
 -- a plan over a table that holds the rule's constants
 pub is-matched : (m : Matched) (r : Rule) → m.plan.now.pattern ≡ r.pattern → IsPlanOf m.sig.now r.pattern m.plan.now

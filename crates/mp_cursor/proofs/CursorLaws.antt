@@ -6,17 +6,15 @@ use Rattle.std.proofs.lemmas.Bool.{not-false}
 use Rattle.mp_term.specs.Search.{In}
 use Rattle.mp_term.specs.Size.{node_count}
 use Rattle.mp_pattern.specs.CondTree.{Cond}
-use Rattle.mp_pattern.specs.PatternTree.{Pattern, symbol_pattern, app_pattern, wild_pattern}
 use Rattle.mp_pattern.specs.Fits as fits
 use Rattle.mp_pattern.specs.RuleView.{rule_tree}
 use Rattle.mp_pattern.specs.declared.rule.Rule.{Rule}
-use Rattle.mp_pattern.specs.Size.{pattern_nodes}
 use Rattle.mp_pattern.specs.Value.{same_name}
 use Rattle.mp_pattern.proofs.NameLaws.{same_name-is, same_name-itself}
 use Rattle.mp_subst.specs.Bound.{bound_of, value_in}
 use Rattle.mp_subst.specs.Trail.{last_value, subst_in}
 use Rattle.mp_subst.specs.declared.bound.Bound as declared_bound
-use Rattle.mp_table.specs.Table.{Table}
+use Rattle.mp_table.specs.Table.{Table, subject_of}
 use Rattle.mp_theory.specs.OneList.{Item, item_list}
 use Rattle.mp_token.specs.Entry.{Entry}
 use Rattle.mp_search.specs.Levels.{take_of}
@@ -25,13 +23,15 @@ use Rattle.mp_cursor.specs.declared.matched.Matched.{Matched}
 use Rattle.mp_cursor.specs.declared.cursor.Cursor.TheInside.{Inside}
 use Rattle.mp_search.specs.declared.stage.Stage.{Stage}
 use Rattle.mp_search.specs.declared.stage.Stage.TheVariants.{Before, Standing, Ended}
-use Rattle.mp_cursor.specs.CursorView.{IsAtItem, IsCursor, cursor_view, item_at, items_of}
+use Rattle.mp_search.specs.Stage.{item_at}
+use Rattle.mp_cursor.specs.CursorView.{IsAtItem, IsCursor, cursor_view, items_of}
 use Rattle.mp_cursor.specs.Kept.{AreHeldTakes}
-use Rattle.mp_cursor.specs.Listing.{Listing, ReadAs, subject_of}
+use Rattle.mp_cursor.specs.Listing.{Listing, ReadAs}
 use Rattle.mp_cursor.specs.Matched.{IsMatched, all_items, sought}
 use Rattle.mp_cursor.specs.Parts.{item_of, levels_table}
 use Rattle.mp_cursor.proofs.LeastLaws.{sought-member}
 use Rattle.mp_pattern.proofs.PlanNodes.{plan-nodes}
+use Rattle.mp_pattern.proofs.OnePattern.{has_nodes}
 use Rattle.mp_cursor.proofs.ReaderLaws.{binding-at, subst-read}
 use Rattle.mp_cursor.proofs.SoughtLaws.{sought-first}
 use Rattle.mp_cursor.proofs.TableLaws.{levels-held, read-takes, table-takes, takes-read, takes-same}
@@ -73,12 +73,6 @@ pub items-sought : (m : Matched) → IsMatched m → (r : Rule) (o : Option Cond
 items-sought m h r o e q W =
     sought-first m h (rule_tree r) W (sym e) ∙ ap (λ c. sought m c First W) (sym q)
 
--- a pattern has a node
-some-nodes : (p : Pattern) → 0 < pattern_nodes p
-some-nodes (symbol_pattern n) = omega arith
-some-nodes (app_pattern f ps) = omega arith
-some-nodes (wild_pattern w x) = omega arith
-
 module _ (c : Inside) (l : Listing) (v : cursor_view c ≡ l) (k : IsCursor c) where
   pub sig-same : c.matched.sig.now ≡ l.sig
   sig-same = ap (λ (x : Listing). x.sig) v
@@ -94,7 +88,7 @@ module _ (c : Inside) (l : Listing) (v : cursor_view c ≡ l) (k : IsCursor c) w
         length-map c.parts.levels.items take_of,
         k.over.roomy.levels,
         plan-nodes c.matched.sig.now c.matched.plan.now.pattern c.matched.plan.now k.matched.plan,
-        some-nodes c.matched.plan.now.pattern,
+        has_nodes c.matched.plan.now.pattern,
       )
 
   held : AreHeldTakes c.matched.table.now (map take_of c.parts.levels.items)

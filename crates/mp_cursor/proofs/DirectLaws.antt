@@ -6,6 +6,7 @@ use Rattle.mp_term.specs.Normal.{IsNormal}
 use Rattle.mp_term.specs.Signature.{Sig}
 use Rattle.mp_term.specs.Tree.{Tree, trees}
 use Rattle.mp_term.proofs.ListingLaws.{contains-from_in, in-from_contains}
+use Rattle.mp_term.proofs.TestLaws.{found-behind}
 use Rattle.mp_pattern.specs.Admission.{Rule, meets, Admits}
 use Rattle.mp_pattern.specs.Lists.{IsOneList}
 use Rattle.mp_pattern.specs.PatternTree.{Pattern, patterns}
@@ -19,19 +20,6 @@ use Rattle.mp_theory.proofs.FilledLaws.{filled-solve}
 use Rattle.mp_theory.proofs.OneListLaws.{one_list-is}
 use Rattle.mp_theory.proofs.ShapeLaws.{fits-shape, shape-fits}
 use Rattle.mp_cursor.specs.Direct.{taken, all_taken}
-
--- what is found behind a test
-met : (b : Bool) (o : Option Subst) (s : Subst) → (if b then o else None) ≡ Some s → (b ≡ true) × (o ≡ Some s)
-met true o s e = (refl, e)
-met false o s e = cc
-
--- a choice by a test is one by a test that is equal
-pub match-if : (b k : Bool) (o : Option Subst) (s : Subst) → b ≡ k → o ≡ (if k then Some s else None)
-    → MatchBool b (o ≡ Some s) (o ≡ None)
-match-if true true o s e h = h
-match-if true false o s e h = cc
-match-if false true o s e h = cc
-match-if false false o s e h = h
 
 -- a variable with a value that isn't one term can't be bound to one
 pub bind-unlike : (s : Subst) (x : List ℕ) (v : Value) (t : Tree) → value_of s x ≡ Some v → merge v (one t) ≡ None
@@ -64,8 +52,8 @@ module _ (sig : Sig) (r : Rule) (t : Tree) (n : IsNormal sig t) (k : is_syntacti
   taken-admits : (s : Subst) → taken sig r.pattern t [] ≡ Some s → Admits sig r t s
   taken-admits s e =
       let p = r.pattern in
-      let a = met (shape p t) (filled sig p t []) s e in
-      let b = met (of_kinds sig p t) (solve sig [] (takings None p t)) s
+      let a = found-behind (shape p t) (filled sig p t []) s e in
+      let b = found-behind (of_kinds sig p t) (solve sig [] (takings None p t)) s
       (sym (filled-solve sig None p t [] tt k) ∙ a.1) in
       record {
         table = table_of p t;

@@ -17,6 +17,7 @@ use Rattle.mp_pattern.specs.Fits as fits
 use Rattle.mp_pattern.specs.DerivationOrder.{table_cmp}
 use Rattle.mp_pattern.specs.Value.{Subst}
 use Rattle.mp_table.specs.declared.rank.Rank.{Rank}
+use Rattle.mp_table.specs.Table.{subject_of}
 use Rattle.mp_theory.specs.Frames.{settle, start}
 use Rattle.mp_theory.specs.OneList.{Item, same_subst}
 use Rattle.mp_theory.proofs.ItemTables.{items-exact}
@@ -30,7 +31,7 @@ use Rattle.mp_search.proofs.FoundLaws.{filter-always}
 use Rattle.mp_cursor.specs.declared.matched.Matched.{Matched}
 use Rattle.mp_cursor.specs.Kept.{HaveRoom, AreHeldTakes}
 use Rattle.mp_cursor.specs.Matched.{IsMatched, all_items, looked_for, sought}
-use Rattle.mp_cursor.specs.Listing.{subject_of, ReadAs}
+use Rattle.mp_cursor.specs.Listing.{ReadAs}
 use Rattle.mp_cursor.proofs.FilterLaws.{not-empty, both-true}
 use Rattle.mp_cursor.proofs.ReaderLaws.{item-fits}
 use Rattle.mp_cursor.proofs.SoughtLaws.{is_least, items-of-pattern, normal-subject, found-item}

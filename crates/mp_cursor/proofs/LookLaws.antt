@@ -17,7 +17,7 @@ use Rattle.mp_pattern.specs.Subpatterns.{subpatterns, all_subpatterns}
 use Rattle.mp_pattern.specs.Value.{Subst}
 use Rattle.mp_pattern.specs.View.{pattern_tree}
 use Rattle.mp_cond.specs.Verdict.{AreHeld}
-use Rattle.mp_table.specs.Table.{HasRanks, terms_at}
+use Rattle.mp_table.specs.Table.{HasRanks, terms_at, subject_of}
 use Rattle.mp_table.specs.declared.rank.Rank.{Rank}
 use Rattle.mp_subst.specs.Trail.{Trail, GoesWith}
 use Rattle.mp_theory.specs.Frames.{Next, settle, start}
@@ -34,7 +34,6 @@ use Rattle.mp_search.specs.Reading.{subst_of, name_among, subst_from}
 use Rattle.mp_search.specs.Wanted.{AreComplete, IsComplete}
 use Rattle.mp_cursor.specs.declared.matched.Matched.{Matched}
 use Rattle.mp_cursor.specs.Matched.{IsMatched, IsDecidable, IsFresh, all_items, trail_subst, search_room}
-use Rattle.mp_cursor.specs.Listing.{subject_of}
 use Rattle.mp_pattern.proofs.PlanNodes.{plan-names}
 use Rattle.mp_cursor.proofs.SubjectLaws.{root-term}
 use Rattle.mp_cursor.proofs.RangeLaws.{range-all, range-distinct}

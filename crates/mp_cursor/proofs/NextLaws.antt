@@ -18,11 +18,12 @@ use Rattle.mp_cursor.specs.declared.matched.Matched.{Matched}
 use Rattle.mp_cursor.specs.declared.parts.Parts.{Parts}
 use Rattle.mp_search.specs.declared.stage.Stage.{Stage}
 use Rattle.mp_search.specs.declared.stage.Stage.TheVariants.{Before, Standing, Ended}
-use Rattle.mp_cursor.specs.CursorView.{IsAtItem, IsCursor, cursor_view, item_at, items_of, to_come_at}
-use Rattle.mp_cursor.specs.Listing.{advanced, subject_of}
+use Rattle.mp_cursor.specs.CursorView.{IsAtItem, IsCursor, cursor_view, items_of, to_come_at}
+use Rattle.mp_table.specs.Table.{subject_of}
+use Rattle.mp_cursor.specs.Listing.{advanced}
 use Rattle.mp_cursor.specs.Matched.{IsMatched, all_items, looked_for, sought}
 use Rattle.mp_cursor.specs.Parts.{AreOver, item_of}
-use Rattle.mp_search.specs.Stage.{mode_at}
+use Rattle.mp_search.specs.Stage.{mode_at, item_at}
 use Rattle.mp_cursor.proofs.LeastLaws.{sought-member, member-sought}
 use Rattle.mp_cursor.proofs.SoughtLaws.{is_least, sought-first, sought-after, item-standing}
 

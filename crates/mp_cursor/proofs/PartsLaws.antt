@@ -4,14 +4,13 @@ use Rattle.std.specs.List.{AllByRecursion}
 use Rattle.mp_term.specs.Size.{node_count}
 use Rattle.mp_search.specs.declared.level.Level.{Level}
 use Rattle.mp_pattern.specs.Subpatterns.{subpatterns}
-use Rattle.mp_table.specs.Table.{Table, HasRanks}
+use Rattle.mp_table.specs.Table.{Table, HasRanks, subject_of}
 use Rattle.mp_subst.specs.Trail.{Trail, GoesWith, spare_at}
 use Rattle.mp_search.specs.declared.grounds.Grounds.{Grounds}
 use Rattle.mp_search.specs.Grounds.{AreGrounds}
 use Rattle.mp_search.specs.Levels.{AreLevels, IsRoomy, IsOver, IsVacant, rooms_of}
 use Rattle.mp_cursor.specs.declared.matched.Matched.{Matched}
 use Rattle.mp_cursor.specs.declared.parts.Parts.{Parts}
-use Rattle.mp_cursor.specs.Listing.{subject_of}
 use Rattle.mp_cursor.specs.Matched.{search_room}
 use Rattle.mp_cursor.specs.Parts.{AreOver, AreRoomy, AreVacant}
 

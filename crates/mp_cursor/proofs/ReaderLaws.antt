@@ -12,7 +12,7 @@ use Rattle.mp_pattern.specs.Fits.{Fits}
 use Rattle.mp_pattern.specs.Plan.{Plan, Variable}
 use Rattle.mp_pattern.specs.Value.{Value, Binding, Subst, Form, form_of, value_of, same_name}
 use Rattle.mp_pattern.specs.Variables.{variable_form}
-use Rattle.mp_table.specs.Table.{Table}
+use Rattle.mp_table.specs.Table.{Table, subject_of}
 use Rattle.mp_subst.specs.Bound.{Bound, value_in}
 use Rattle.mp_subst.specs.Trail.{Trail, TrailEntry, GoesWith, last_value, bindings_from, subst_in}
 use Rattle.mp_pattern.proofs.NameLaws.{same_name-itself}
@@ -25,7 +25,6 @@ use Rattle.mp_search.proofs.NumberLaws.{numbered, distinct-variables, in-slice_g
 use Rattle.mp_search.proofs.SubstLaws.{value_of-subst_from}
 use Rattle.mp_cursor.specs.declared.matched.Matched.{Matched}
 use Rattle.mp_cursor.specs.Matched.{IsMatched, all_items, trail_subst}
-use Rattle.mp_cursor.specs.Listing.{subject_of}
 use Rattle.mp_pattern.proofs.PlanNodes.{plan-names}
 use Rattle.mp_cursor.proofs.RangeLaws.{range-distinct, range-at}
 use Rattle.mp_cursor.proofs.SliceLaws.{got-within}

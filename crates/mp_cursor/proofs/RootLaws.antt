@@ -27,7 +27,7 @@ use Rattle.mp_theory.specs.MayMatch.{takes_one, each_takes_one}
 use Rattle.mp_theory.specs.Least.{is_least_item}
 use Rattle.mp_theory.specs.OneList.{item_list}
 use Rattle.mp_theory.proofs.SecondSearch.{items-fit, item_list-least}
-use Rattle.mp_search.proofs.LackLaws.{none-in}
+use Rattle.mp_theory.proofs.NextTerm.{none-in}
 pub use Rattle.mp_search.proofs.NumberLaws.{same-swapped}
 
 pub single : (t u : Tree) → t ∷ [] ≡ u ∷ [] → t ≡ u

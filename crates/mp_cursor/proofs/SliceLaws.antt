@@ -1,11 +1,9 @@
 -- Lists in which one item is set, item by item from the left.
 use Rattle.std.proofs.Common.{◌≡◌, ◌<◌, ◌≤◌, ◌+◌, ◌-◌, ℕ, zero, suc, List, [], ◌∷◌, ◌++◌, length, map, take, drop, refl}
 use Rattle.std.proofs.Common.{ap, sym, ◌∙◌, subst, arith, add-one}
-use Rattle.std.specs.Prelude.{slice_set, slice_index_or, slice_get, Some, None}
+use Rattle.std.specs.Prelude.{slice_set, slice_index_or, slice_get, None}
 use Rattle.std.specs.List.{AllByRecursion}
-use Rattle.std.proofs.lemmas.Option.{slice_get_within, get_or_from_slice_get}
-use Rattle.std.proofs.lemmas.List.{drop_all, length-map, take_all}
-use Rattle.mp_term.proofs.ListLaws.{drop-item}
+use Rattle.std.proofs.lemmas.List.{length-map, take_all}
 
 taken-set : {X Y : Type 0} (f : X → Y) (xs : List X) (i : ℕ) (x : X) → i < length xs
     → map f (take (suc i) (slice_set xs i x)) ≡ map f (take i xs) ++ f x ∷ []
@@ -46,23 +44,10 @@ all-set P [] i x h p = tt
 all-set P (y ∷ xs) zero x h p = (p, h.1)
 all-set P (y ∷ xs) (suc i) x h p = (h.0, all-set P xs i x h.1 p)
 
-pub all-at : {X : Type 0} (P : X → Type 0) (xs : List X) (i : ℕ) (d : X) → AllByRecursion P xs → i < length xs
-    → P (slice_index_or xs i d)
-all-at P [] i d h k = absurd (omega (arith, k))
-all-at P (y ∷ xs) zero d h k = h.0
-all-at P (y ∷ xs) (suc i) d h k = all-at P xs i d h.1 (omega (arith, k))
-
--- the item at a place, and what is left from it on
-pub drop-at : {X : Type 0} (xs : List X) (i : ℕ) (x : X) → slice_get xs i ≡ Some x → drop i xs ≡ x ∷ drop (i + 1) xs
-drop-at xs i x e = drop-item xs i x (slice_get_within xs i x e) (sym (get_or_from_slice_get xs i x x e))
-
 pub got-within : {X : Type 0} (xs : List X) (i : ℕ) → slice_get xs i ≡ None → length xs ≤ i
 got-within [] i e = omega arith
 got-within (y ∷ xs) zero e = cc
 got-within (y ∷ xs) (suc i) e = omega (arith, got-within xs i e)
-
-pub drop-none : {X : Type 0} (xs : List X) (i : ℕ) → slice_get xs i ≡ None → drop i xs ≡ []
-drop-none xs i e = drop_all i xs (got-within xs i e)
 
 pub same-lengths : {X Y Z : Type 0} (f : X → Z) (g : Y → Z) (xs : List X) (ys : List Y) → map f xs ≡ map g ys
     → length xs ≡ length ys

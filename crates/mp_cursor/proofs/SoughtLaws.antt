@@ -25,7 +25,8 @@ use Rattle.mp_search.specs.declared.mode.Mode.TheVariants.{First, After, At}
 use Rattle.mp_search.specs.Wanted.{beyond}
 use Rattle.mp_cursor.specs.declared.matched.Matched.{Matched}
 use Rattle.mp_cursor.specs.Matched.{IsMatched, IsOnward, IsDecided, all_items, looked_for, sought}
-use Rattle.mp_cursor.specs.Listing.{items_after, subject_of}
+use Rattle.mp_table.specs.Table.{subject_of}
+use Rattle.mp_cursor.specs.Listing.{items_after}
 use Rattle.mp_cursor.proofs.AfterLaws.{after-first, after-found, kept-after, kept-first, left-first}
 use Rattle.mp_cursor.proofs.AfterLaws.{fewer-behind}
 use Rattle.mp_cursor.proofs.FilterLaws.{filter-both, kept-pass}

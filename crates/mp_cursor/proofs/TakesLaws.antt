@@ -12,9 +12,10 @@ use Rattle.mp_table.specs.Table.{Table, HasRanks, rank_cmp}
 use Rattle.mp_table.specs.declared.rank.Rank.{Rank}
 use Rattle.mp_search.specs.declared.level.Level.{Level}
 use Rattle.mp_search.specs.Levels.{AreLevels, IsRoomy, IsOver, take_of, draws_of, rooms_of}
-use Rattle.mp_search.proofs.RankOrder.{rank_means}
 use Rattle.mp_cursor.specs.Kept.{HaveRoom, AreHeldTakes}
-use Rattle.mp_cursor.proofs.SliceLaws.{drop-at, drop-none, all-set, all-at}
+use Rattle.mp_cursor.proofs.SliceLaws.{all-set}
+use Rattle.mp_subst.proofs.RankLists.{rank_same}
+use Rattle.mp_term.proofs.ListLaws.{drop-at, drop-none, all-index}
 
 pub room-lengths : (ns : List ℕ) (ts : List (List Rank × Bool)) → HaveRoom ns ts → length ns ≡ length ts
 room-lengths [] [] h = refl
@@ -96,11 +97,11 @@ pub set-levels : (t : Table) (width : ℕ) (ls : List Level) (i : ℕ) (d new : 
 set-levels t width ls i d new rs b h a p e q r s =
     all-set (λ l. IsRoomy width l × IsOver t l) ls i new a
     (set-over t width (slice_index_or ls i d) new rs b
-    (all-at (λ l. IsRoomy width l × IsOver t l) ls i d a h) p e q r s)
+    (all-index (λ l. IsRoomy width l × IsOver t l) ls i d a h) p e q r s)
 
 -- lists of ranks that compare as equal are one
 pub ranks-equal : (rs ss : List Rank) → is_eq (slice_cmp rank_cmp rs ss) ≡ true → rs ≡ ss
-ranks-equal rs ss h = slice_cmp-IsAntisymmetric rank_means rs ss ((Equal-is (slice_cmp rank_cmp rs ss)).0 h)
+ranks-equal rs ss h = slice_cmp-IsAntisymmetric rank_same rs ss ((Equal-is (slice_cmp rank_cmp rs ss)).0 h)
 
 pub ranks-itself : (rs : List Rank) → is_eq (slice_cmp rank_cmp rs rs) ≡ true
 ranks-itself rs = ap is_eq (tied_itself (lists_total (on_total (λ r. r.0) nat_cmp_total)) rs)

@@ -1,21 +1,17 @@
 -- How a cursor is read, and what holds of each.
-use Rattle.std.specs.Prelude.{◌≡◌, List, [], Option, Some, None}
+use Rattle.std.specs.Prelude.{◌≡◌, List, []}
 use Rattle.mp_term.specs.Search.{In}
 use Rattle.mp_pattern.specs.RuleView.{rule_tree}
 use Rattle.mp_pattern.specs.View.{pattern_tree}
 use Rattle.mp_theory.specs.OneList.{Item, item_list}
 use Rattle.mp_cursor.specs.declared.cursor.Cursor.TheInside.{Inside}
+use Rattle.mp_search.specs.Stage.{item_at}
 use Rattle.mp_search.specs.declared.stage.Stage.{Stage}
 use Rattle.mp_search.specs.declared.stage.Stage.TheVariants.{Before, Standing, Ended}
-use Rattle.mp_cursor.specs.Listing.{Listing, items_after, subject_of}
+use Rattle.mp_table.specs.Table.{subject_of}
+use Rattle.mp_cursor.specs.Listing.{Listing, items_after}
 use Rattle.mp_cursor.specs.Matched.{IsMatched, IsDecidable, IsDecided}
 use Rattle.mp_cursor.specs.Parts.{AreOver, item_of}
-
--- the item at which a cursor stands
-abbrev pub item_at : Stage → Item → Option Item
-item_at Before i = None
-item_at Standing i = Some i
-item_at Ended i = None
 
 -- those that are still to come, of all of them
 abbrev pub to_come_at : Stage → Item → List Item → List Item

@@ -1,14 +1,14 @@
 -- What contracts see of a cursor.
-use Rattle.std.specs.Prelude.{◌≡◌, false, List, [], ◌∷◌, filter, drop, slice_get, slice_index_or, Option, Some, ⊤}
+use Rattle.std.specs.Prelude.{◌≡◌, List, [], ◌∷◌, filter, drop, slice_get, Option, Some, ⊤}
 use Rattle.std.specs.Ordering.{is_lt}
-use Rattle.mp_term.specs.Tree.{Tree, symbol}
 use Rattle.mp_term.specs.Signature.{Sig}
 use Rattle.mp_term.specs.Search.{In}
 use Rattle.mp_pattern.specs.Admission.{Rule}
 use Rattle.mp_pattern.specs.Fits as fits
 use Rattle.mp_pattern.specs.DerivationOrder.{table_cmp}
-use Rattle.mp_table.specs.Table.{Table, HasRanks, terms_at}
+use Rattle.mp_table.specs.Table.{Table}
 use Rattle.mp_theory.specs.OneList.{Item}
+use Rattle.mp_search.specs.Reading.{ReadsAs}
 use Rattle.mp_token.specs.Entry.{Entry}
 
 -- the signature, the rule and the table over which it goes; the item at which it stands, if it stands at one; and the
@@ -32,11 +32,7 @@ advanced c = record c { item = slice_get c.to_come 0; to_come = drop 1 c.to_come
 abbrev pub items_after : fits.Table → List Item → List Item
 items_after W is = filter (λ j. is_lt (table_cmp W j.0)) is
 
--- the ranks and the mark stand for the entry
-abbrev pub ReadsAs : Table → Entry → fits.Entry → Type 0
-ReadsAs t e d = HasRanks t e.0 × (terms_at t e.0 ≡ d.terms) × (e.1 ≡ d.collapsed)
-
--- so do the entries of a token with those of a take table
+-- the entries of a token stand for those of a take table
 abbrev pub ReadAs : Table → List Entry → fits.Table → Type 0
 ReadAs t [] [] = ⊤
 ReadAs t (e ∷ es) (d ∷ ds) = ReadsAs t e d × ReadAs t es ds
@@ -53,11 +49,3 @@ pub record StandsAt (es : List Entry) (all : List Item) (c : Listing) : Type 0 w
 -- the entries are the table of no item of the list
 abbrev pub StandForNone : Table → List Entry → List Item → Type 0
 StandForNone t es all = (i : Item) → In i all → ReadAs t es i.0 → ⊥
-
--- the entry of a node that isn't there
-abbrev pub nothing : fits.Entry
-nothing = record { terms = []; collapsed = false }
-
--- the table's subject
-abbrev pub subject_of : Table → Tree
-subject_of t = slice_index_or t.terms t.root (symbol [])

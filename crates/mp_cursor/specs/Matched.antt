@@ -15,6 +15,7 @@ use Rattle.mp_pattern.specs.Subpatterns.{subpatterns}
 use Rattle.mp_pattern.specs.Value.{Subst}
 use Rattle.mp_pattern.specs.Variables.{variables}
 use Rattle.mp_table.specs.Table as tables
+use Rattle.mp_table.specs.Table.{subject_of}
 use Rattle.mp_subst.specs.Trail.{Trail}
 use Rattle.mp_cond.specs.Verdict.{AreHeld}
 use Rattle.mp_theory.specs.Frames.{settle, start}
@@ -29,7 +30,6 @@ use Rattle.mp_search.specs.Wanted.{beyond}
 use Rattle.mp_search.specs.declared.mode.Mode.{Mode}
 use Rattle.mp_search.specs.declared.mode.Mode.TheVariants.{First, After, At}
 use Rattle.mp_cursor.specs.declared.matched.Matched.{Matched}
-use Rattle.mp_cursor.specs.Listing.{subject_of}
 
 -- the plan is that of its pattern over the signature, and the table is one of normal terms, the pattern's symbols and
 -- defaults among them

@@ -12,7 +12,7 @@ use Rattle.mp_search.specs.Reading.{table_of}
 use Rattle.mp_cursor.specs.declared.parts.Parts.{Parts}
 use Rattle.mp_cursor.specs.declared.matched.Matched.{Matched}
 use Rattle.mp_cursor.specs.Kept.{HasRoom}
-use Rattle.mp_cursor.specs.Listing.{subject_of}
+use Rattle.mp_table.specs.Table.{subject_of}
 use Rattle.mp_cursor.specs.Matched.{trail_subst, search_room}
 
 -- what the nodes take

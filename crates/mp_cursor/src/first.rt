@@ -11,7 +11,7 @@ ghost use Rattle.mp_pattern.specs.Value as values;
 ghost use Rattle.mp_pattern.specs.View.{pattern_tree};
 ghost use Rattle.mp_subst.specs.View.{subst_of};
 ghost use Rattle.mp_theory.specs.OneList.{one_list};
-ghost use Rattle.mp_cursor.specs.Listing.{subject_of};
+ghost use Rattle.mp_table.specs.Table.{subject_of};
 
 use crate::cursor::Cursor;
 use crate::cursor_room::CursorRoom;

@@ -12,7 +12,7 @@ ghost use Rattle.mp_search.specs.Levels.{AreLevels};
 ghost use Rattle.mp_search.specs.Reading.{table_of};
 ghost use Rattle.mp_cursor.specs.Kept.{HasRoom};
 ghost use Rattle.mp_cursor.specs.Matched.{IsMatched, all_items, trail_subst, search_room};
-ghost use Rattle.mp_cursor.specs.Listing.{subject_of};
+ghost use Rattle.mp_table.specs.Table.{subject_of};
 
 use crate::kept::{Kept, are_kept, keep, put_back};
 use crate::look::look;

@@ -11,7 +11,7 @@ ghost use Rattle.mp_search.specs.Reading.{table_of};
 ghost use Rattle.mp_search.specs.Wanted.{IsStanding};
 ghost use Rattle.mp_cursor.specs.Matched.{IsMatched, IsDecidable, IsFresh, all_items, looked_for, trail_subst};
 ghost use Rattle.mp_cursor.specs.Matched.{search_room};
-ghost use Rattle.mp_cursor.specs.Listing.{subject_of};
+ghost use Rattle.mp_table.specs.Table.{subject_of};
 
 use crate::matched::Matched;
 use mp_pattern::{Cond, Plan};

@@ -8,7 +8,8 @@ ghost use Rattle.mp_search.specs.declared.mode.Mode.TheVariants.{First, After};
 ghost use Rattle.mp_cursor.specs.Matched.{IsMatched, IsDecidable, IsDecided, IsOnward, all_items, looked_for, sought};
 ghost use Rattle.mp_cursor.specs.Matched.{search_room};
 ghost use Rattle.mp_cursor.specs.Parts.{AreRoomy, AreVacant, AreOver, item_of, levels_table};
-ghost use Rattle.mp_cursor.specs.Listing.{subject_of, ReadAs, StandForNone};
+ghost use Rattle.mp_table.specs.Table.{subject_of};
+ghost use Rattle.mp_cursor.specs.Listing.{ReadAs, StandForNone};
 
 use crate::kept::{Kept, kept_takes};
 use crate::least::has_least;

@@ -11,6 +11,7 @@ use Rattle.std.proofs.lemmas.List.{length-append, map-append}
 use Rattle.mp_term.specs.Listing.{In}
 use Rattle.mp_term.specs.Signature.{Sig}
 use Rattle.mp_term.proofs.SearchLaws.{from_in-append, from_in-flat}
+use Rattle.mp_term.proofs.ListingLaws.{place-in}
 use Rattle.mp_pattern.specs.CondTree.{Cond}
 use Rattle.mp_pattern.proofs.ItemLaws.{slice_get-found, slice_get-second}
 use Rattle.mp_ac.specs.CommItems.{NoneTwice}
@@ -22,7 +23,7 @@ use Rattle.mp_program.specs.Program.{ProgramRule}
 use Rattle.mp_program.specs.FormText.{first_target}
 use Rattle.mp_program.specs.FormFaults.{target_faults, path_faults, way_faults, code_faults}
 use Rattle.mp_program.specs.Leads.{Lead, lead, leads, befores, leads_after}
-use Rattle.mp_program.proofs.ListLaws.{list_any-none, place-in}
+use Rattle.mp_program.proofs.ListLaws.{list_any-none}
 use Rattle.mp_gen.proofs.TreeTargets.{AreTargets}
 
 -- ---- ways to one instruction

@@ -3,11 +3,11 @@ use Rattle.std.proofs.Common.{◌≡◌, ℕ, List, [], ◌∷◌, ◌++◌, Boo
 use Rattle.std.proofs.Common.{subst, append_assoc, append-nil, eq-eqb}
 use Rattle.std.specs.Prelude.{Option, Some, None, if◌then◌else◌}
 use Rattle.mp_term.specs.Signature.{Sig, is_comm}
+use Rattle.mp_term.proofs.ListLaws.{both-empty}
 use Rattle.mp_pattern.specs.NetTokens.{NetToken, enter_token, leave_token, comm_token, renamed, tokens, all_tokens}
 use Rattle.mp_pattern.specs.PatternTree.{Pattern, symbol_pattern, app_pattern, wild_pattern, Patterns, no_patterns}
 use Rattle.mp_pattern.specs.PatternTree.{more_patterns}
 use Rattle.mp_walk.specs.Walkable.{Path}
-use Rattle.mp_build.proofs.Faultless.{nil-append}
 use Rattle.mp_program.specs.TokenPaths.{open_after, open_along}
 use Rattle.mp_program.proofs.ListLaws.{first-same, rest-same}
 
@@ -130,7 +130,7 @@ module _ (sig : Sig) (vs : List (List ℕ)) where
             ]
           where
             ends_at : (z : NetToken) (zs : Path) → (z ∷ zs) ++ rest ≡ leave_token g ∷ [] → (zs ≡ []) × (rest ≡ [])
-            ends_at z zs q = nil-append zs rest (rest-same z (leave_token g) (zs ++ rest) [] q)
+            ends_at z zs q = both-empty zs rest (rest-same z (leave_token g) (zs ++ rest) [] q)
 
     open-all_front : (ps : Patterns) (fs : List ℕ) (ks rest : Path) → ks ++ rest ≡ all_tokens sig vs ps
         → IsOpenOver fs ks

@@ -6,9 +6,9 @@ use Rattle.std.proofs.lemmas.Grind.{flat_map-append}
 use Rattle.std.proofs.lemmas.List.{length-append}
 use Rattle.mp_term.specs.Listing.{In}
 use Rattle.mp_term.proofs.SearchLaws.{in-left, in-right}
+use Rattle.mp_term.proofs.TestLaws.{below_or_not}
 use Rattle.mp_pattern.specs.NetTokens.{NetToken}
 use Rattle.mp_walk.specs.Instrs.{Instr, targets}
-use Rattle.mp_walk.proofs.ListLaws.{below_or_not}
 use Rattle.mp_many.specs.Prefixes.{heads}
 use Rattle.mp_many.specs.Laid.{Numbered, bare, left_after, ended, target, each_laid, laid}
 

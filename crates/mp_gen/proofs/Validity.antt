@@ -1,5 +1,5 @@
 -- What is generated of sound rules is valid.
-use Rattle.std.proofs.Common.{◌≡◌, ◌≢◌, ◌≤◌, ◌<◌, ℕ, zero, suc, ◌+◌, List, [], ◌∷◌, ◌++◌, map, length, true}
+use Rattle.std.proofs.Common.{◌≡◌, ◌≢◌, ◌≤◌, ◌<◌, ℕ, zero, suc, List, [], ◌∷◌, ◌++◌, map, length, true}
 use Rattle.std.proofs.Common.{false, refl, ap, sym, ◌∙◌, inl, inr, subst, arith, append-nil, ◌⊎◌, ◌^◌}
 use Rattle.std.specs.Prelude.{Option, Some, None, ◌↔◌, IsSome, flat_map, option_to_list}
 use Rattle.std.specs.Prelude.{codes, decimal, if◌then◌else◌}

@@ -1,6 +1,6 @@
 -- Numbers in decimal: what they write, and that no two have one text.
 use Rattle.std.proofs.Common.{◌≡◌, ◌≢◌, ◌<◌, ◌≤◌, ◌+◌, ◌-◌, ◌*◌, ◌/◌, ◌%◌, ◌^◌, ℕ, Bool, true, false, [], ◌∷◌}
-use Rattle.std.proofs.Common.{◌++◌, Option, Some, None, inl, inr, refl, sym, ap, subst, ◌∙◌, arith, rules}
+use Rattle.std.proofs.Common.{◌++◌, Option, Some, None, inl, inr, refl, sym, ap, subst, ◌∙◌, arith}
 use Rattle.std.specs.Prelude.{nat_eq, nat_le, decimal, codes, length, not, get_or, ◌||◌, ◌&&◌}
 use Rattle.std.specs.Char.{is_ascii_digit}
 use Rattle.std.specs.List.{list_any, list_all}
@@ -14,6 +14,7 @@ use Rattle.std.proofs.lemmas.Str.Parse.{IsDigitsTest, FoldsDigits, numerals_by_f
 use Rattle.mp_io.specs.Devices.{Text}
 use Rattle.mp_build.specs.Names.{number_after, number_of}
 use Rattle.mp_build.proofs.Faultless.{some-behind}
+use Rattle.mp_build.proofs.Numbers.{is_ascii_digit-digit, number_after-append}
 use Rattle.mp_program.specs.Reading.{is_numeral}
 use Rattle.mp_program.specs.RightForm.{IsShort}
 use Rattle.mp_line.specs.Finds.{IsOnly}
@@ -43,21 +44,16 @@ pub record IsDecimal (n : ℕ) (digits : Text) : Type 0 where
   pub are_digits : list_all is_ascii_digit digits ≡ true
   pub some : digits ≢ []
 
--- digits in two parts
-number_after-append : (n : ℕ) (front back : Text)
-    → number_after n (front ++ back) ≡ number_after (number_after n front) back
-number_after-append n [] back = refl
-number_after-append n (d ∷ ds) back = number_after-append (10 * n + (d - 48)) ds back
-
 -- the decimal text of a number
 pub decimal-text : (n : ℕ) → n < 2 ^ 64 → IsDecimal n (decimal n)
 decimal-text = decimal_by_steps IsDecimal one more
   where
-    digit : (n : ℕ) → n < 10 → is_ascii_digit (48 + n) ≡ true
-    digit n small = search (rules, small)
-
     one : (n : ℕ) → n < 10 → IsDecimal n ((48 + n) ∷ [])
-    one n small = record { value = omega arith; are_digits = rw (digit n small) refl; some = λ e. absurd cc }
+    one n small = record {
+      value = omega arith;
+      are_digits = rw (is_ascii_digit-digit n small) refl;
+      some = λ e. absurd cc;
+    }
 
     more : (n : ℕ) (ds : Text) → 10 ≤ n → IsDecimal (n / 10) ds → IsDecimal n (ds ++ ((48 + n % 10) ∷ []))
     more n ds large w =
@@ -67,7 +63,7 @@ decimal-text = decimal_by_steps IsDecimal one more
         record {
           value = number_after-append 0 ds ((48 + n % 10) ∷ []) ∙ last;
           are_digits = list_all-append is_ascii_digit ds ((48 + n % 10) ∷ [])
-              ∙ rw (w.are_digits, digit (n % 10) small) refl;
+              ∙ rw (w.are_digits, is_ascii_digit-digit (n % 10) small) refl;
           some = λ e. absurd (some-behind ds (48 + n % 10) e);
         }
 

@@ -10,7 +10,7 @@ use Rattle.mp_term.specs.Normal.{IsNormal}
 use Rattle.mp_term.specs.Signature.{Sig}
 use Rattle.mp_term.specs.Size.{node_count}
 use Rattle.mp_term.specs.Tree.{Tree}
-use Rattle.mp_term.proofs.ListLaws.{all-also, all-append}
+use Rattle.mp_term.proofs.ListLaws.{all-also, all-append, all-get}
 use Rattle.mp_term.proofs.ListingLaws.{all_in, contains-from_in, in-from_contains}
 use Rattle.mp_term.proofs.SearchLaws.{all-from_in, in-left, in-right}
 use Rattle.mp_pattern.specs.Admission.{Rule, meets}
@@ -31,7 +31,6 @@ use Rattle.mp_cond.proofs.ReadyLaws.{IsReady-over}
 use Rattle.mp_theory.specs.ValueSizes.{HasAtMost}
 use Rattle.mp_theory.proofs.FitsSolves.{fits-solves}
 use Rattle.mp_theory.proofs.ValueSizes.{fits-within}
-use Rattle.mp_subst.proofs.TrailLaws.{all-get}
 use Rattle.mp_many.specs.Given.{IsGivenBy, IsPairOf}
 use Rattle.mp_many.specs.Many.{Many}
 use Rattle.mp_many.specs.WalkItems.{AreWalkItems, IsWalkItem}

@@ -10,6 +10,7 @@ use Rattle.mp_many.specs.declared.tokens.Kept.{Kept}
 use Rattle.mp_many.specs.declared.tokens.Kept.TheVariants.{Enter, Leave, Held}
 use Rattle.mp_many.specs.KeptTokens.{kept_tokens, read_kept, IsHeld}
 use Rattle.mp_many.specs.TokenView.{read_token}
+use Rattle.mp_many.proofs.WalkableLaws.{get-drop}
 
 -- a token that is kept is read alike where more are held
 read_kept-more : (held more : List NetToken) (k : Kept) → IsHeld (length held) k
@@ -61,16 +62,7 @@ taken-at [] (suc count) place h = refl
 taken-at (x ∷ xs) (suc count) zero h = refl
 taken-at (x ∷ xs) (suc count) (suc place) h = taken-at xs count place (omega (arith, h))
 
--- and behind them
-dropped-at : {X : Type 0} (xs : List X) (start place : ℕ)
-    → slice_get (drop start xs) place ≡ slice_get xs (start + place)
-dropped-at xs zero place = let e : place ≡ 0 + place = omega arith in ap (slice_get xs) e
-dropped-at [] (suc start) place = refl
-dropped-at (x ∷ xs) (suc start) place =
-    let e : suc (start + place) ≡ suc start + place = omega arith in
-    dropped-at xs start place ∙ ap (slice_get (x ∷ xs)) e
-
 -- and in a part
 pub part-at : {X : Type 0} (xs : List X) (start count place : ℕ) → place < count
     → slice_get (take count (drop start xs)) place ≡ slice_get xs (start + place)
-part-at xs start count place h = taken-at (drop start xs) count place h ∙ dropped-at xs start place
+part-at xs start count place h = taken-at (drop start xs) count place h ∙ get-drop xs start place

@@ -1,6 +1,6 @@
 -- The variables of a pattern, read as names that are given.
 use Rattle.std.proofs.Common.{◌≡◌, ◌<◌, ◌≤◌, ◌∙◌, ℕ, zero, suc, ◌+◌, Bool, true, false, List, [], ◌∷◌, ◌++◌, length}
-use Rattle.std.proofs.Common.{append_assoc, get_or, map, take, refl, sym, ap, arith}
+use Rattle.std.proofs.Common.{append_assoc, get_or, take, refl, sym, ap, arith}
 use Rattle.std.specs.Prelude.{◌||◌, if◌then◌else◌, Option, Some, None, option_map, slice_get, slice_index_or}
 use Rattle.std.specs.List.{AllByRecursion}
 use Rattle.std.proofs.lemmas.List.{get_or_append_left, length-append, map-append, take_all, take_more}
@@ -10,12 +10,12 @@ use Rattle.std.proofs.lemmas.Slice.Eq.{bytes_eq-Decides}
 use Rattle.mp_term.proofs.ListLaws.{all-also}
 use Rattle.mp_pattern.specs.Firsts.{is_known, firsts_after}
 use Rattle.mp_pattern.specs.NetTokens.{number_in}
-use Rattle.mp_pattern.specs.PatternTree.{dot, Pattern, symbol_pattern, app_pattern, wild_pattern, Patterns}
-use Rattle.mp_pattern.specs.PatternTree.{no_patterns, more_patterns}
-use Rattle.mp_pattern.specs.UsedNames.{used_names, all_used_names}
+use Rattle.mp_pattern.specs.PatternTree.{dot, Pattern, wild_pattern}
+use Rattle.mp_pattern.specs.UsedNames.{used_names}
 use Rattle.mp_pattern.specs.Value.{same_name}
-use Rattle.mp_pattern.specs.Variables.{Use, uses, all_uses, variables}
+use Rattle.mp_pattern.specs.Variables.{variables}
 use Rattle.mp_pattern.proofs.PlanLaws.{firsts_after-append}
+use Rattle.mp_pattern.proofs.UsedNameLaws.{names-uses}
 use Rattle.mp_many.specs.RuleNames.{lists_at}
 
 -- a name whose number is below k is one of the first k
@@ -83,20 +83,6 @@ module _ (names : List (List ℕ)) (k : ℕ) where
   pub read-then : (n : ℕ) (xs ys : List (List ℕ)) → firsts_after same_name (take k names) xs ≡ take n names
       → firsts_after same_name (take k names) (xs ++ ys) ≡ firsts_after same_name (take n names) ys
   read-then n xs ys e = firsts_after-append same_name (take k names) xs ys ∙ ap (λ l. firsts_after same_name l ys) e
-
--- the names at the wildcards are those of the occurrences of variables
-mutual
-  names-uses : (f : Option ℕ) (p : Pattern) → map (λ (u : Use). u.name) (uses f p) ≡ used_names p
-  names-uses f (symbol_pattern n) = refl
-  names-uses f (wild_pattern w None) = refl
-  names-uses f (wild_pattern w (Some x)) = refl
-  names-uses f (app_pattern g ps) = all_names-uses (Some g) ps
-
-  all_names-uses : (f : Option ℕ) (ps : Patterns) → map (λ (u : Use). u.name) (all_uses f ps) ≡ all_used_names ps
-  all_names-uses f no_patterns = refl
-  all_names-uses f (more_patterns p ps) =
-      map-append (λ (u : Use). u.name) (uses f p) (all_uses f ps)
-      ∙ (λ i. names-uses f p i ++ all_names-uses f ps i)
 
 -- names that are read to their end are the variables
 pub read-all : (names : List (List ℕ)) (p : Pattern) (n : ℕ) → n ≡ length names

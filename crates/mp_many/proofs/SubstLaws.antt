@@ -17,6 +17,7 @@ use Rattle.mp_pattern.specs.Value.{Subst}
 use Rattle.mp_pattern.specs.Variables.{variables}
 use Rattle.mp_pattern.specs.declared.limits.TheConstants.{MAX_VARIABLES}
 use Rattle.mp_table.specs.Table as tables
+use Rattle.mp_table.specs.Table.{subject_of}
 use Rattle.mp_subst.specs.Trail.{Trail, subst_in}
 use Rattle.mp_theory.specs.NoOptional.{HasNoOptional}
 use Rattle.mp_theory.proofs.Instances.{fits-applied}
@@ -28,7 +29,7 @@ use Rattle.mp_walk.specs.NamedItems.{called, IsItemTrail}
 use Rattle.mp_walk.specs.WalkItems.{IsLeafItem}
 use Rattle.mp_walk.specs.Walkable.{Path}
 use Rattle.mp_many.specs.Laid.{tree_of}
-use Rattle.mp_many.specs.Many.{Many, subject_of}
+use Rattle.mp_many.specs.Many.{Many}
 use Rattle.mp_many.specs.RuleWalk.{Item, given}
 use Rattle.mp_many.specs.WalkItems.{accepts_at}
 use Rattle.mp_many.proofs.ItemLaws.{leaf-rule}

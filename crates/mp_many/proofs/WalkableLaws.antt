@@ -33,7 +33,7 @@ use Rattle.mp_many.proofs.TreeLaws.{laid-inside, AreShort, laid-leads, laid-reac
 
 -- ---- lists
 
-get-drop : {X : Type 0} (xs : List X) (m j : ℕ) → slice_get (drop m xs) j ≡ slice_get xs (m + j)
+pub get-drop : {X : Type 0} (xs : List X) (m j : ℕ) → slice_get (drop m xs) j ≡ slice_get xs (m + j)
 get-drop xs zero j = let e : j ≡ 0 + j = omega arith in ap (slice_get xs) e
 get-drop [] (suc m) j = refl
 get-drop (x ∷ xs) (suc m) j =

@@ -5,10 +5,10 @@ use Rattle.mp_term.specs.Normal.{IsNormal}
 use Rattle.mp_term.specs.Size.{node_count}
 use Rattle.mp_pattern.specs.declared.limits.TheConstants.{MAX_TERM_NODES}
 use Rattle.mp_table.specs.Table.{Table, rank_of}
+use Rattle.mp_table.specs.Table.{subject_of}
 use Rattle.mp_term.specs.Signature.{Sig}
 use Rattle.mp_pattern.specs.Admission.{Rule}
 use Rattle.mp_walk.specs.CodeConstants.{code_constants}
-pub use Rattle.mp_walk.specs.WalkView.{subject_of}
 use Rattle.mp_many.specs.Laid.{tree_of}
 
 -- the signature and the rules

@@ -3,7 +3,8 @@ use Rattle.std.specs.Prelude.{◌≡◌, ◌≢◌, true, false, ℕ, List, [], 
 use Rattle.std.specs.List.{AllByRecursion}
 use Rattle.mp_walk.specs.WalkItems.{IsLeafItem}
 use Rattle.mp_many.specs.Laid.{tree_of}
-use Rattle.mp_many.specs.Many.{IsWalkTable, subject_of}
+use Rattle.mp_table.specs.Table.{subject_of}
+use Rattle.mp_many.specs.Many.{IsWalkTable}
 use Rattle.mp_many.specs.RuleWalk as plain
 use Rattle.mp_many.specs.RuleWalk.{given}
 use Rattle.mp_many.specs.WalkItems.{accepts_at, rule_items}

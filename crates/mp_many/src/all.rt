@@ -10,7 +10,8 @@ ghost use Rattle.mp_pattern.specs.declared.limits.TheConstants.{MAX_TERM_NODES};
 ghost use Rattle.mp_cond.specs.Ready.{IsReady};
 ghost use Rattle.mp_walk.specs.Ranked.{pairs_of, AreOver};
 ghost use Rattle.mp_many.specs.Given.{IsPairOf};
-ghost use Rattle.mp_many.specs.Many.{subject_of, IsWalkTable};
+ghost use Rattle.mp_table.specs.Table.{subject_of};
+ghost use Rattle.mp_many.specs.Many.{IsWalkTable};
 ghost use Rattle.mp_many.specs.WalkItems.{IsWalkItem};
 
 use crate::many::Many;

@@ -1,13 +1,14 @@
 //! The walk of a subject over many rules at once.
 ghost use Rattle.std.specs.Prelude.{◌≡◌, ◌≤◌, ◌↔◌, true, length, drop, slice_get, slice_index_or, Some, None, IsTrue};
 ghost use Rattle.std.specs.Prelude.{IsSome, IsErr, IfOk, IfSome, OnOk, OnErr, MatchOption};
-ghost use Rattle.mp_pattern.specs.Fits.{Fits};
+ghost use Rattle.mp_pattern.specs.Fits.{Fits, nothing};
 ghost use Rattle.mp_pattern.specs.Instance.{is_fully_named, IsPatternApplied};
 ghost use Rattle.mp_theory.specs.NoOptional.{HasNoOptional};
 ghost use Rattle.mp_subst.specs.View.{subst_of};
-ghost use Rattle.mp_walk.specs.WalkView.{nothing, ReadsAs};
+ghost use Rattle.mp_table.specs.Table.{subject_of};
+ghost use Rattle.mp_search.specs.Reading.{ReadsAs};
 ghost use Rattle.mp_many.specs.RuleWalk.{Item};
-ghost use Rattle.mp_many.specs.Many.{subject_of, IsWalkTable};
+ghost use Rattle.mp_many.specs.Many.{IsWalkTable};
 ghost use Rattle.mp_many.specs.WalkItems.{AreWalkItems, HaveOneTable};
 
 use crate::many::Many;

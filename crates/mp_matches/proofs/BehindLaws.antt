@@ -4,17 +4,17 @@ use Rattle.std.proofs.Common.{◌+◌, sym, ap, ap₂, ◌∙◌, subst, inl, in
 use Rattle.std.specs.Prelude.{Option, Some, None, flat_map, not, cond, ◌&&◌, if◌then◌else◌, ◌≤◌, nat_lt, position}
 use Rattle.std.specs.List.{AllByRecursion, list_all, position_or_len}
 use Rattle.std.specs.List.Sorted.{IsStrictlySortedBy}
-use Rattle.std.specs.Ordering.{is_lt}
 use Rattle.std.specs.Str.{bytes_eq}
-use Rattle.std.specs.declared.cmp.Ordering.{Ordering}
-use Rattle.std.specs.declared.cmp.Ordering.TheVariants.{Less, Equal, Greater}
+use Rattle.std.specs.declared.cmp.Ordering.TheVariants.{Less, Equal}
 use Rattle.std.proofs.lemmas.Bool.Decides.{nat_tests}
 use Rattle.std.proofs.lemmas.Cmp.{tied_itself, lists_total}
 use Rattle.std.proofs.lemmas.Slice.Eq.{bytes_eq-Decides}
+use Rattle.std.proofs.lemmas.Bool.{false_from_ne_true, and_parts}
 use Rattle.mp_io.specs.Devices.{Text}
 use Rattle.mp_term.specs.Listing.{In}
 use Rattle.mp_term.specs.Names.{are_distinct}
 use Rattle.mp_term.proofs.ListingLaws.{one_way}
+use Rattle.mp_term.proofs.TestLaws.{not-lt}
 use Rattle.mp_pattern.specs.Admission.{Rule}
 use Rattle.mp_pattern.specs.Fits.{Table}
 use Rattle.mp_pattern.specs.DerivationOrder.{table_cmp}
@@ -31,18 +31,9 @@ use Rattle.mp_matches.proofs.PrintedLaws.{behind_token-next}
 
 -- two texts that aren't the same
 pub bytes_eq-other : (a b : Text) → (a ≡ b → ⊥) → bytes_eq a b ≡ false
-bytes_eq-other a b h = go (bytes_eq a b) (λ e. h ((bytes_eq-Decides a b).0 e))
-  where
-    go : (r : Bool) → (r ≡ true → ⊥) → r ≡ false
-    go true k = absurd (k refl)
-    go false k = refl
+bytes_eq-other a b h = false_from_ne_true (bytes_eq a b) (λ e. h ((bytes_eq-Decides a b).0 e))
 
 -- ---- the items of a rule
-
-not-lt : (o : Ordering) → (o ≡ Less → ⊥) → is_lt o ≡ false
-not-lt Less h = absurd (h refl)
-not-lt Equal h = refl
-not-lt Greater h = refl
 
 less-than : (at : Item) (i : Item) (is : List Item) → AllByRecursion (λ T. table_cmp i.0 T ≡ Less) (item_tables is)
     → In at is → table_cmp i.0 at.0 ≡ Less
@@ -162,13 +153,8 @@ module _ {X : Type 0} (f : X → List Match) (name : X → Text) (token word : T
   parts-found [] d all apart h = absurd (omega (arith, h))
   parts-found (x ∷ xs) d all apart h = go (parts-found xs d all.1) (is_named x) refl h
     where
-      parted : (a b : Bool) → (a && b) ≡ true → (a ≡ true) × (b ≡ true)
-      parted true true e = (refl, refl)
-      parted true false e = cc
-      parted false b e = cc
-
       both : (list_all (λ m. not (bytes_eq m (name x))) (map name xs) ≡ true) × (are_distinct (map name xs) ≡ true)
-      both = parted (list_all (λ m. not (bytes_eq m (name x))) (map name xs)) (are_distinct (map name xs)) apart
+      both = and_parts (list_all (λ m. not (bytes_eq m (name x))) (map name xs)) (are_distinct (map name xs)) apart
 
       go : (are_distinct (map name xs) ≡ true → position_or_len is_named xs < length xs
           → behind_token token (flat_map f xs)

@@ -3,8 +3,7 @@ use Rattle.std.proofs.Common.{◌≡◌, ◌<◌, ◌+◌, ℕ, zero, suc, List,
 use Rattle.std.proofs.Common.{ap, ap₂, sym, ◌∙◌, subst, inl, inr, arith}
 use Rattle.std.specs.Prelude.{Bool, Contains, Option, Some, None, slice_get, option_and_then, if◌then◌else◌}
 use Rattle.std.specs.declared.cmp.Ordering.{Ordering}
-use Rattle.std.specs.declared.cmp.Ordering.TheVariants.{Less, Equal, Greater}
-use Rattle.std.specs.Ordering.{eq_by_cmp, is_gt, is_lt, ordering_reverse}
+use Rattle.std.specs.Ordering.{eq_by_cmp, is_lt}
 use Rattle.std.specs.Cmp.{IsTotalOrder}
 use Rattle.std.specs.List.{AllByRecursion, dedup}
 use Rattle.std.specs.List.Sorted.{IsSorted, IsStrictlySortedBy}
@@ -23,6 +22,7 @@ use Rattle.mp_term.specs.TreeLists.{tree_list-trees}
 use Rattle.mp_term.proofs.ListLaws.{all-also, all-append, all-split}
 use Rattle.mp_term.proofs.ListingLaws.{contains-from_in, in-from_contains, unique_listing}
 use Rattle.mp_term.proofs.Sorting.{Ascends, ascends-sorted}
+use Rattle.mp_term.proofs.TestLaws.{equal-from, not_less-flipped}
 use Rattle.mp_pattern.specs.Admission.{AreLeast, IsLeast, Rule}
 use Rattle.mp_pattern.specs.Constants.{rule_constants}
 use Rattle.mp_pattern.specs.Fits as fits
@@ -35,7 +35,6 @@ use Rattle.mp_table.specs.Preorder.{all_preorder}
 use Rattle.mp_table.specs.Subterms.{IsSubterm, IsSubtermOf}
 use Rattle.mp_table.specs.Table.{HasRank, HasRanks, IsTableOf, Table, rank_of, term_at, terms_at}
 use Rattle.mp_table.specs.declared.rank.Rank.{Rank}
-use Rattle.mp_table.proofs.Distinct.{equal-from}
 use Rattle.mp_table.proofs.PreorderLaws.{in-from_subterm_of, subterm_of-from_in}
 use Rattle.mp_table.proofs.RankLaws.{rank_of-found, rank_of-slice_get}
 use Rattle.mp_theory.specs.OneList.{Item, item_substs, item_tables}
@@ -49,15 +48,10 @@ use Rattle.mp_matches.specs.TokenOf.{entry_in, number_or_0, rank_in, table_of, t
 
 module _ {X : Type 0} (cmp : X → X → Ordering) where
   -- and is sorted
-  not_less : (r s : Ordering) → s ≡ ordering_reverse r → is_gt r ≡ false → is_lt s ≡ false
-  not_less Less s e g = ap is_lt e
-  not_less Equal s e g = ap is_lt e
-  not_less Greater s e g = cc
-
   sorted-ascends : IsTotalOrder cmp → (xs : List X) → Ascends cmp xs → IsSorted cmp xs
   sorted-ascends o [] h k d _ l = absurd (omega (arith, l))
   sorted-ascends o (x ∷ []) h k d _ l = absurd (omega (arith, l))
-  sorted-ascends o (x ∷ y ∷ xs) h zero d _ l = not_less (cmp x y) (cmp y x) (o.antisymm y x) h.0.0
+  sorted-ascends o (x ∷ y ∷ xs) h zero d _ l = not_less-flipped (cmp x y) (cmp y x) (o.antisymm y x) h.0.0
   sorted-ascends o (x ∷ y ∷ xs) h (suc k) d _ l =
       let e : suc (k + 1) ≡ suc k + 1 = omega arith in
       subst (λ n. is_lt (cmp (get_or (x ∷ y ∷ xs) n d) (get_or (y ∷ xs) k d)) ≡ false) e

@@ -17,6 +17,7 @@ use Rattle.mp_pattern.specs.Value.{Subst}
 use Rattle.mp_pattern.specs.Admission.{Rule, meets, Admits}
 use Rattle.mp_pattern.specs.Lists.{Pair, pair_cmp, subst_cmp, IsAllList}
 use Rattle.mp_term.specs.Listing.{In}
+use Rattle.mp_term.proofs.TestLaws.{found-behind}
 use Rattle.mp_theory.specs.Solve.{solve}
 use Rattle.mp_theory.specs.Shape.{shape, of_kinds, takings, table_of}
 use Rattle.mp_net.specs.Net.{marks, Open, going, Turn, rules_at, IsNet, run}
@@ -30,10 +31,6 @@ met : (b : Bool) (s r : Subst) → (if b then Some s else None) ≡ Some r → (
 met true s r e = (refl, cc)
 met false s r e = cc
 
-met_some : (b : Bool) (o : Option Subst) (s : Subst) → (if b then o else None) ≡ Some s → (b ≡ true) × (o ≡ Some s)
-met_some true o s e = (refl, e)
-met_some false o s e = cc
-
 -- and behind a step
 met_then : (o : Option Subst) (test : Subst → Bool) (s : Subst)
     → option_and_then (λ r. if test r then Some r else None) o ≡ Some s → (o ≡ Some s) × (test s ≡ true)
@@ -45,8 +42,8 @@ module _ (sig : Sig) (t : Tree) where
   admitted-admits : (r : Rule) (s : Subst) → IsNormal sig t → is_syntactic sig r.pattern ≡ true
       → admitted sig t r ≡ Some s → Admits sig r t s
   admitted-admits r s n k e =
-      let a = met_some (shape r.pattern t) (tested sig t r) s e in
-      let b = met_some (of_kinds sig r.pattern t) _ s a.1 in
+      let a = found-behind (shape r.pattern t) (tested sig t r) s e in
+      let b = found-behind (of_kinds sig r.pattern t) _ s a.1 in
       let c = met_then (solve sig [] (takings None r.pattern t)) (meets sig r.condition) s b.1 in
       record { table = table_of r.pattern t; fits = shape-fits sig r.pattern t s k n a.0 b.0 c.0; condition = c.1 }
 

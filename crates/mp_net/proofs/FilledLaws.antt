@@ -1,6 +1,6 @@
 -- A rule with a syntactic pattern is tested by what its variables take in turn.
 use Rattle.std.proofs.Common.{◌≡◌, [], Bool, true, false, refl, ap, sym, ◌∙◌, subst}
-use Rattle.std.specs.Prelude.{Option, Some, None, if◌then◌else◌, option_and_then, MatchBool, IfSome, IfNone}
+use Rattle.std.specs.Prelude.{Option, Some, None, if◌then◌else◌, option_and_then, IfSome, IfNone}
 use Rattle.mp_term.specs.Tree.{Tree}
 use Rattle.mp_term.specs.Signature.{Sig}
 use Rattle.mp_pattern.specs.Admission.{Rule, meets}
@@ -26,14 +26,6 @@ module _ (sig : Sig) where
           (if b then solve sig [] (takings None r.pattern t) else None)
       by_kinds true = refl
       by_kinds false = refl
-
--- a choice by a test is one by a test that is equal
-pub match-if : (b k : Bool) (o : Option Subst) (s : Subst) → b ≡ k → o ≡ (if k then Some s else None)
-    → MatchBool b (o ≡ Some s) (o ≡ None)
-match-if true true o s e h = h
-match-if true false o s e h = cc
-match-if false true o s e h = cc
-match-if false false o s e h = h
 
 -- what a choice holds
 pub none-of : {A X : Type 0} (o : Option A) → o ≡ None → IfNone o X → X

@@ -12,7 +12,8 @@ use Rattle.mp_net.specs.NetOf.{IsNetOf, IsGroup}
 use Rattle.mp_net.specs.Chain.{single}
 use Rattle.mp_net.specs.declared.build.Net.{Net}
 use Rattle.mp_net.specs.declared.mark.Mark.{Mark}
-use Rattle.mp_net.proofs.ItemLaws.{drop-held, held-map, items-from}
+use Rattle.mp_net.proofs.ItemLaws.{held-map, items-from}
+use Rattle.mp_term.proofs.ListLaws.{drop-held}
 
 -- the marks of the rule at a place
 pub tables-held : {Z : Type 0} (ms : List (Vec Mark Z)) (i : ℕ) (v : Vec Mark Z)

@@ -5,18 +5,7 @@ use Rattle.std.specs.Prelude.{Some, None, slice_get, option_map}
 use Rattle.mp_net.specs.Net as net
 use Rattle.mp_net.specs.Items.{opens, items_from, first_of}
 use Rattle.mp_net.specs.NetOf.{opening}
-
--- what a list holds at a place
-pub drop-held : {X : Type 0} (xs : List X) (k : ℕ) (x : X) → slice_get xs k ≡ Some x → drop k xs ≡ x ∷ drop (suc k) xs
-drop-held [] k x e = cc
-drop-held (y ∷ ys) zero x e = let p : Some y ≡ Some x = e in let q : y ≡ x = cc in ap (λ z. z ∷ ys) q
-drop-held (y ∷ ys) (suc k) x e = drop-held ys k x e
-
-pub drop-none : {X : Type 0} (xs : List X) (k : ℕ) → slice_get xs k ≡ None → drop k xs ≡ []
-drop-none [] zero e = refl
-drop-none [] (suc k) e = refl
-drop-none (y ∷ ys) zero e = cc
-drop-none (y ∷ ys) (suc k) e = drop-none ys k e
+use Rattle.mp_term.proofs.ListLaws.{drop-held, drop-none}
 
 -- and through a map
 pub held-map : {X Y : Type 0} (f : X → Y) (xs : List X) (k : ℕ) → slice_get (map f xs) k ≡ option_map f (slice_get xs k)

@@ -31,31 +31,26 @@ use Rattle.mp_net.specs.Nets.{rule_marks}
 use Rattle.mp_theory.specs.Shape.{shape, of_kinds, takings}
 use Rattle.mp_net.specs.View.{turn_of}
 use Rattle.mp_theory.specs.Filled.{filled}
-use Rattle.mp_net.specs.Walk.{IsRead, tested_pair, IsFound, subject_of, visits}
+use Rattle.mp_net.specs.Walk.{IsRead, tested_pair, IsFound, visits}
 use Rattle.mp_net.specs.Probe.{more_reads}
 use Rattle.mp_net.specs.declared.visit.Seen.{Seen}
-use Rattle.mp_table.specs.Table.{Table, term_at}
+use Rattle.mp_table.specs.Table.{Table, term_at, subject_of}
 use Rattle.mp_table.specs.declared.rank.Rank.{Rank}
 use Rattle.mp_net.specs.declared.build.Net.{Net}
 use Rattle.mp_net.specs.declared.state.State.{State}
-use Rattle.mp_theory.proofs.FilledLaws.{filled-solve}
+use Rattle.mp_theory.proofs.FilledLaws.{filled-solve, from_then}
 use Rattle.mp_net.proofs.NetLaws.{marks-eaten, run-rules}
 use Rattle.mp_theory.proofs.ShapeLaws.{takings-uses}
 use Rattle.mp_net.proofs.TraceLaws.{trace-read}
 
 -- ---- conditions
 
--- what a choice by a test gives
-if-some : (b : Bool) (o : Option Subst) (s : Subst) → (if b then o else None) ≡ Some s → o ≡ Some s
-if-some true o s e = e
-if-some false o s e = cc
-
 -- what the variables of a pattern take binds the variables of the pattern
 pub names-filled : (sig : Sig) (p : Pattern) (t : Tree) (s : Subst) → is_syntactic sig p ≡ true → shape p t ≡ true
     → filled sig p t [] ≡ Some s → map (λ b. b.name) s ≡ variables p
 names-filled sig p t s k h e =
     names-from_solve sig p (takings None p t) (takings-uses None p t h) s
-    (if-some (of_kinds sig p t) (solve sig [] (takings None p t)) s (sym (filled-solve sig None p t [] tt k) ∙ e))
+    (from_then (of_kinds sig p t) (solve sig [] (takings None p t)) s (sym (filled-solve sig None p t [] tt k) ∙ e))
 
 -- so a substitution with these is ready for a sound condition
 pub ready-condition : (sig : Sig) (p : Pattern) (s : Subst) (o : Option Cond) → map (λ b. b.name) s ≡ variables p

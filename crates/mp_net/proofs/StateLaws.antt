@@ -5,10 +5,9 @@ use Rattle.std.proofs.Common.{◌⊎◌, inl, inr, subst, map, take, length, len
 use Rattle.std.specs.Prelude.{Option, Some, None, slice_get, option_map}
 use Rattle.std.specs.List.{AllByRecursion, filter_map}
 use Rattle.std.proofs.lemmas.List.{map-append, length-map, take_all}
-use Rattle.mp_term.proofs.ListLaws.{all-append, all-also}
+use Rattle.mp_term.proofs.ListLaws.{all-append, all-also, slice_get-pushed, all-get}
 use Rattle.std.proofs.lemmas.Option.{slice_get_within, slice_get-get_or, slice_get-map}
 use Rattle.std.specs.declared.vec.Vec.{Vec}
-use Rattle.mp_subst.proofs.TrailLaws.{all-get}
 use Rattle.mp_net.specs.Net.{Mark, Open, below, behind, going, Turn, IsAt, Leads, AllLead}
 use Rattle.mp_net.specs.View.{mark_of, numbered, turn_of}
 use Rattle.mp_net.specs.Items.{opens, states, listed}
@@ -25,13 +24,7 @@ use Rattle.mp_net.proofs.MarkLaws.{edge-place, none-asked}
 use Rattle.mp_net.proofs.TurnLaws.{states-listed}
 use Rattle.mp_net.proofs.ShortLaws.{all_short-more, short-led}
 use Rattle.mp_net.specs.declared.limits.TheConstants.{MAX_STATES}
-
--- what stands in a list stands in it with more behind
-pub get-front : {X : Type 0} (xs ys : List X) (q : ℕ) (x : X) → slice_get xs q ≡ Some x
-    → slice_get (xs ++ ys) q ≡ Some x
-get-front [] ys q x e = cc
-get-front (z ∷ xs) ys zero x e = e
-get-front (z ∷ xs) ys (suc q) x e = get-front xs ys q x e
+use Rattle.mp_pattern.proofs.ItemLaws.{slice_get-found}
 
 -- and what stands behind it
 pub get-behind : {X : Type 0} (xs ys : List X) (i : ℕ) → slice_get (xs ++ ys) (length xs + i) ≡ slice_get ys i
@@ -44,45 +37,37 @@ get-behind (x ∷ xs) ys i = ap (slice_get (x ∷ (xs ++ ys))) (suc-add (length 
     suc-add : (a b : ℕ) → suc a + b ≡ suc (a + b)
     suc-add a b = omega arith
 
-get-last : {X : Type 0} (xs : List X) (x y : X) (q : ℕ) → slice_get (xs ++ x ∷ []) q ≡ Some y
-    → (slice_get xs q ≡ Some y) ⊎ ((q ≡ length xs) × (x ≡ y))
-get-last [] x y zero e = let p : Some x ≡ Some y = e in inr (refl, cc)
-get-last [] x y (suc q) e = cc
-get-last (z ∷ xs) x y zero e = inl e
-get-last (z ∷ xs) x y (suc q) e =
-    elim (get-last xs x y q e) [ inl h ↦ inl h | inr h ↦ inr (ap (λ n. suc n) h.0, h.1) ]
-
 -- a state leads on where more are added
 pub leads-more : (rules more : List (List Open)) (os : List Open) (t : Turn) → Leads rules os t
     → Leads (rules ++ more) os t
 leads-more rules more os t l = record {
   asked = l.asked;
-  down = λ h q e. get-front rules more q (going (below h) os) (l.down h q e);
+  down = λ h q e. slice_get-found rules more q (going (below h) os) (l.down h q e);
   over = at_other t.other l.over;
 }
   where
     at_other : (o : Option ℕ) → IsAt rules o (going behind os) → IsAt (rules ++ more) o (going behind os)
     at_other None h = h
-    at_other (Some q) h = get-front rules more q (going behind os) h
+    at_other (Some q) h = slice_get-found rules more q (going behind os) h
 
 -- one more state leads on
 pub all_lead-more : (rules more : List (List Open)) (turns : List Turn) (os : List Open) (t : Turn)
     → length turns < length rules → AllLead rules turns → slice_get rules (length turns) ≡ Some os
     → Leads (rules ++ more) os t → AllLead (rules ++ more) (turns ++ t ∷ [])
-all_lead-more rules more turns os t few all here l = λ q u vs e f. by_place q u vs f (get-last turns t u q e)
+all_lead-more rules more turns os t few all here l = λ q u vs e f. by_place q u vs f (slice_get-pushed turns t u q e)
   where
     by_place : (q : ℕ) (u : Turn) (vs : List Open) → slice_get (rules ++ more) q ≡ Some vs
         → (slice_get turns q ≡ Some u) ⊎ ((q ≡ length turns) × (t ≡ u)) → Leads (rules ++ more) vs u
     by_place q u vs f (inl h) =
         let w = slice_get_within turns q u h in
         let v : slice_get rules q ≡ Some (get_or rules q []) = slice_get-get_or rules q [] (omega (arith, w, few)) in
-        let y : Some (get_or rules q []) ≡ Some vs = sym (get-front rules more q (get_or rules q []) v) ∙ f in
+        let y : Some (get_or rules q []) ≡ Some vs = sym (slice_get-found rules more q (get_or rules q []) v) ∙ f in
         let z : get_or rules q [] ≡ vs = cc in
         subst (λ k. Leads (rules ++ more) k u) z
         (leads-more rules more (get_or rules q []) u (all q u (get_or rules q []) h v))
     by_place q u vs f (inr h) =
         let x : slice_get (rules ++ more) q ≡ Some os =
-        ap (slice_get (rules ++ more)) h.0 ∙ get-front rules more (length turns) os here in
+        ap (slice_get (rules ++ more)) h.0 ∙ slice_get-found rules more (length turns) os here in
         let y : Some os ≡ Some vs = sym x ∙ f in
         let z : os ≡ vs = cc in
         subst (λ k. Leads (rules ++ more) k u) z (subst (Leads (rules ++ more) os) h.1 l)
@@ -100,7 +85,8 @@ state-leads rules os hs ms is have over = record {
       slice_get-map (λ g. going (below g) os) (map mark_of hs) r.0 ∙ ap (option_map (λ g. going (below g) os)) r.2 in
       ap (slice_get (rules ++ (below_each os (map mark_of hs) ++ map (opens ms) (unless_empty is)))) r.1
       ∙ get-behind rules (below_each os (map mark_of hs) ++ map (opens ms) (unless_empty is)) r.0
-      ∙ get-front (below_each os (map mark_of hs)) (map (opens ms) (unless_empty is)) r.0 (going (below h) os) there;
+      ∙ slice_get-found (below_each os (map mark_of hs)) (map (opens ms) (unless_empty is)) r.0 (going (below h) os)
+      there;
   over = by_items is over;
 }
   where
@@ -215,7 +201,7 @@ built-more ms start rules new ss s t os built within here turn room e heads firs
           (subst (AllLead (old ++ more)) (sym (map-append turn_of ss (s ∷ [])))
           (all_lead-more old more (map turn_of ss) os (turn_of s) (omega arith) built.lead
           (ap (slice_get old) f ∙ here) leads));
-      start = ap (λ rs. slice_get rs 0) g ∙ get-front old more 0 start built.start;
+      start = ap (λ rs. slice_get rs 0) g ∙ slice_get-found old more 0 start built.start;
       accepted =
           map-append accepted ss (s ∷ [])
           ∙ ap (λ us. us ++ accepted s ∷ []) built.accepted

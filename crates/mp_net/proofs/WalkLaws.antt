@@ -209,10 +209,6 @@ pub nodes-first : (tb : Table) (rs : List Rank) (d : Rank) → 1 ≤ length rs �
     ≡ node_count (term_at tb (get_or rs 0 d)) + all_nodes (terms_at tb (take (length rs - 1) (drop 1 rs)))
 nodes-first tb rs d h = ap all_nodes (ranks-first tb rs d h)
 
-pub some_nodes : (t : Tree) → 1 ≤ node_count t
-some_nodes (symbol n) = omega arith
-some_nodes (app f ts) = omega arith
-
 pub args-count : (tb : Table) (args : List Rank) (t : Tree) → terms_at tb args ≡ arguments t
     → length args ≡ length (arguments t)
 args-count tb args t h = sym (length-map args (term_at tb)) ∙ ap length h

@@ -1,5 +1,5 @@
 -- The walk of the subject of a table, and what a rule's variables take of what it reads.
-use Rattle.std.specs.Prelude.{◌≡◌, ◌≤◌, ℕ, true, List, [], ◌∷◌, map, drop, length, slice_index_or, Option, Some}
+use Rattle.std.specs.Prelude.{◌≡◌, ◌≤◌, ℕ, true, List, [], ◌∷◌, map, drop, length, Option, Some}
 use Rattle.std.specs.Prelude.{slice_get, option_map, option_and_then}
 use Rattle.std.specs.List.{AllByRecursion}
 use Rattle.mp_term.specs.Signature.{Sig}
@@ -16,10 +16,6 @@ use Rattle.mp_theory.specs.Shape.{shape}
 use Rattle.mp_net.specs.AllList.{tested}
 use Rattle.mp_net.specs.declared.visit.Seen.{Seen}
 use Rattle.mp_net.specs.declared.taken.Taken.{Taken}
-
--- the subject of a table
-abbrev pub subject_of : Table → Tree
-subject_of t = slice_index_or t.terms t.root (symbol [])
 
 -- a node that was read, with its term
 abbrev pub visit_of : Table → Seen → net.Visit

@@ -5,11 +5,11 @@ ghost use Rattle.mp_pattern.specs.RuleView.{rule_tree};
 ghost use Rattle.mp_pattern.specs.SoundRule.{IsSoundRule};
 ghost use Rattle.mp_pattern.specs.View.{pattern_tree};
 ghost use Rattle.mp_subst.specs.View.{subst_of};
-ghost use Rattle.mp_table.specs.Table.{IsTable};
+ghost use Rattle.mp_table.specs.Table.{IsTable, subject_of};
 ghost use Rattle.mp_net.specs.AllList.{tested};
 ghost use Rattle.mp_net.specs.Nets.{is_syntactic_rule};
 ghost use Rattle.mp_theory.specs.Shape.{shape};
-ghost use Rattle.mp_net.specs.Walk.{subject_of, visits, IsSeen, IsRead};
+ghost use Rattle.mp_net.specs.Walk.{visits, IsSeen, IsRead};
 
 use crate::taken::{follow, to_subst};
 use crate::visit::Seen;

@@ -15,7 +15,7 @@ use Rattle.mp_theory.proofs.Merging.{same_terms-sound, same_terms-complete}
 use Rattle.mp_term.proofs.ListLaws.{bool_same}
 use Rattle.mp_cursor.proofs.RootLaws.{trees-injective}
 
-tree_sound : (t u : Tree) → same tree_cmp t u ≡ true → t ≡ u
+pub tree_sound : (t u : Tree) → same tree_cmp t u ≡ true → t ≡ u
 tree_sound = same-sound tree_cmp tree_cmp_total tree_same
 
 tree_itself : (t u : Tree) → t ≡ u → same tree_cmp t u ≡ true

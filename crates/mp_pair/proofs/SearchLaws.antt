@@ -11,12 +11,14 @@ use Rattle.std.proofs.lemmas.List.{length_push, take_more, take_more_set, length
 use Rattle.std.proofs.lemmas.List.Sums.{sum_by_push, sum_by-cons}
 use Rattle.mp_term.specs.Search.{In}
 use Rattle.mp_term.proofs.SearchLaws.{in-left, in-right}
-use Rattle.mp_choice.specs.Listed.{number_lists, above}
+use Rattle.mp_term.proofs.TestLaws.{less-from}
+use Rattle.mp_term.specs.Listing.{above}
+use Rattle.mp_choice.specs.Listed.{number_lists}
 use Rattle.mp_choice.proofs.Lexicographic.{lex, less_head, less_tail}
 use Rattle.mp_choice.proofs.Listed.{in-number_lists}
 use Rattle.mp_pair.specs.Pairings.{IsPairing}
 use Rattle.mp_pair.specs.PairingSteps.{IsNextClass, HasNoClass, Below, IsFirstAt, NoneAt, IsFront}
-use Rattle.mp_choice.proofs.Tests.{eq_test, eq_from, filter_less, is_less}
+use Rattle.mp_choice.proofs.Tests.{eq_test, eq_from, filter_less}
 use Rattle.mp_pair.proofs.PairLaws.{not_below_itself, below_from_less, below-push, passed-push, below-back, passed-back}
 use Rattle.mp_pair.proofs.PairLaws.{all_zip-at, zip_length, zip-push, zip-drop}
 
@@ -176,7 +178,7 @@ unfolding places_left
 places_fall classes items front new bound b l e h m =
     filter_less (λ y. is_lt (lex (front ++ bound ∷ []) y)) (λ y. is_lt (lex (new ++ b ∷ []) y))
     (λ y n. ap is_lt (nat_list_cmp_total.trans (front ++ bound ∷ [])
-    (new ++ b ∷ []) y l (is_less (lex (new ++ b ∷ []) y) n)))
+    (new ++ b ∷ []) y l (less-from (lex (new ++ b ∷ []) y) n)))
     (short_lists classes (items + 1)) (new ++ b ∷ [])
     (in-short_lists classes (items + 1) (new ++ b ∷ []) (omega (arith, length_push new b))
     (all_push (λ x. x ≤ classes) new b h m))

@@ -1,5 +1,5 @@
 -- The constants of sound rules are normal, and have few nodes.
-use Rattle.std.proofs.Common.{ℕ, ◌+◌, ◌*◌, ◌≤◌, List, [], ◌∷◌, length, Option, Some, None, refl, ap, inl, inr, arith}
+use Rattle.std.proofs.Common.{ℕ, ◌+◌, ◌*◌, ◌≤◌, List, [], ◌∷◌, length, Option, Some, None, refl, ap, arith}
 use Rattle.std.specs.Prelude.{flat_map, Contains}
 use Rattle.std.specs.declared.cmp.Ordering.TheVariants.{Less, Equal, Greater}
 use Rattle.std.specs.List.{AllByRecursion}
@@ -11,11 +11,12 @@ use Rattle.mp_term.specs.Size.{node_count, all_nodes}
 use Rattle.mp_term.specs.Signature.{Sig}
 use Rattle.mp_term.specs.Normal.{IsNormal}
 use Rattle.mp_term.specs.Pieces.{insert_new, distinct}
-use Rattle.mp_term.specs.Listing.{In, IsListing}
+use Rattle.mp_term.specs.Listing.{IsListing}
 use Rattle.mp_term.proofs.ListLaws.{all-append, all-also, all-flat_map}
 use Rattle.mp_term.proofs.ListingLaws.{contains-from_in, in-from_contains, all_in, unique_listing}
 use Rattle.mp_term.proofs.NormalSize.{all_nodes-append}
 use Rattle.mp_term.proofs.PiecesLaws.{in-distinct, from_in-distinct, ascending-distinct}
+use Rattle.mp_term.proofs.SearchLaws.{all-from_in}
 use Rattle.mp_pattern.specs.declared.limits.TheConstants.{MAX_PATTERN_NODES, MAX_DEFAULT_NODES, MAX_OPERAND_NODES}
 use Rattle.mp_pattern.specs.declared.limits.TheConstants.{MAX_ATOMS}
 use Rattle.mp_pattern.specs.PatternTree.{Wildcard, dot, kind, plus, star, optional, counted, Pattern, symbol_pattern}
@@ -129,11 +130,6 @@ all_nodes-IsListing all ts h =
 
 -- ---- of sound rules
 
--- what holds of members holds of each
-all-members : (P : Tree → Type 0) (ts : List Tree) → ((t : Tree) → In t ts → P t) → AllByRecursion P ts
-all-members P [] h = tt
-all-members P (t ∷ ts) h = (h t (inl refl), all-members P ts (λ u i. h u (inr i)))
-
 module _ (sig : Sig) where
   -- a normal term of so many nodes at most
   abbrev IsFine : ℕ → Tree → Type 0
@@ -218,7 +214,7 @@ module _ (sig : Sig) where
   pub constants-normal : (rs : List Rule) (ts : List Tree) → AllByRecursion (IsSoundRule sig) rs
       → IsListing tree_cmp (IsConstantOf rs) ts → AllByRecursion (IsNormal sig) ts
   constants-normal rs ts h l =
-      all-members (IsNormal sig) ts
+      all-from_in (IsNormal sig) ts
       (λ t i. all_in (IsNormal sig) (flat_map rule_constants rs) t
       (all-flat_map (IsNormal sig) (IsSoundRule sig) rule_constants normal-rule rs h)
       (in-from_contains t (flat_map rule_constants rs) ((l.exactly t).0 (contains-from_in t ts i))))

@@ -1,6 +1,6 @@
 -- The nodes and the variables of a plan give its pattern back.
-use Rattle.std.proofs.Common.{◌≡◌, ℕ, ◌+◌, ◌<◌, Bool, true, false, ◌||◌, List, [], ◌∷◌, ◌++◌, map, get_or, refl, ap}
-use Rattle.std.proofs.Common.{sym, ◌∙◌, subst, arith, append_assoc, append-nil}
+use Rattle.std.proofs.Common.{◌≡◌, ℕ, ◌+◌, Bool, true, false, ◌||◌, List, [], ◌∷◌, ◌++◌, map, get_or, refl, ap}
+use Rattle.std.proofs.Common.{◌≤◌, sym, ◌∙◌, subst, arith, append_assoc, append-nil}
 use Rattle.std.specs.Prelude.{Option, Some, None, if◌then◌else◌, is_some}
 use Rattle.std.specs.List.{AllByRecursion, list_any, position}
 use Rattle.std.proofs.Math.Bool.{or-true}
@@ -88,7 +88,7 @@ one_numbered xs x y h e =
     first ∙ sym second
 
 -- a pattern has a node
-has_nodes : (p : Pattern) → 0 < pattern_nodes p
+pub has_nodes : (p : Pattern) → 1 ≤ pattern_nodes p
 has_nodes (symbol_pattern n) = omega arith
 has_nodes (app_pattern f ps) = omega arith
 has_nodes (wild_pattern w x) = omega arith

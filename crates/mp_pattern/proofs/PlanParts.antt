@@ -11,7 +11,7 @@ use Rattle.mp_pattern.specs.Size.{pattern_nodes}
 use Rattle.mp_pattern.specs.Variables.{variables}
 
 -- what is mapped to nothing was nothing
-nothing-mapped : {A B : Type 0} (f : A → B) (o : Option A) → option_map f o ≡ None → o ≡ None
+pub nothing-mapped : {A B : Type 0} (f : A → B) (o : Option A) → option_map f o ≡ None → o ≡ None
 nothing-mapped f None e = refl
 nothing-mapped f (Some x) e = cc
 

@@ -1,5 +1,5 @@
--- The names at the wildcards of a pattern are those of the occurrences of its variables.
-use Rattle.std.proofs.Common.{◌≡◌, ◌+◌, ◌∙◌, ℕ, List, [], ◌++◌, map, refl, ap, ap₂}
+-- The names at the wildcards of a pattern are those of the occurrences of its variables, and which names are known.
+use Rattle.std.proofs.Common.{◌≡◌, ◌+◌, ◌∙◌, ℕ, Bool, true, false, List, [], ◌∷◌, ◌++◌, map, refl, ap, ap₂}
 use Rattle.std.proofs.Common.{drop, sym}
 use Rattle.std.specs.Prelude.{◌||◌, Option, Some, None, slice_get}
 use Rattle.std.proofs.lemmas.Option.{get_or_from_slice_get, slice_get_within}
@@ -13,17 +13,25 @@ use Rattle.mp_pattern.specs.Variables.{Use, uses, all_uses, variables}
 use Rattle.mp_pattern.specs.UsedNames.{used_names, all_used_names}
 
 mutual
-  names-uses : (f : Option ℕ) (p : Pattern) → map (λ (u : Use). u.name) (uses f p) ≡ used_names p
+  pub names-uses : (f : Option ℕ) (p : Pattern) → map (λ (u : Use). u.name) (uses f p) ≡ used_names p
   names-uses f (symbol_pattern n) = refl
   names-uses f (wild_pattern w None) = refl
   names-uses f (wild_pattern w (Some x)) = refl
   names-uses f (app_pattern g ps) = all_names-uses (Some g) ps
 
-  all_names-uses : (f : Option ℕ) (ps : Patterns) → map (λ (u : Use). u.name) (all_uses f ps) ≡ all_used_names ps
+  pub all_names-uses : (f : Option ℕ) (ps : Patterns) → map (λ (u : Use). u.name) (all_uses f ps) ≡ all_used_names ps
   all_names-uses f no_patterns = refl
   all_names-uses f (more_patterns p ps) =
       map-append (λ (u : Use). u.name) (uses f p) (all_uses f ps)
       ∙ ap₂ (λ (xs ys : List (List ℕ)). xs ++ ys) (names-uses f p) (all_names-uses f ps)
+
+-- what is known among some is known among more
+pub is_known-more : {X : Type 0} (same : X → X → Bool) (known more : List X) (x : X) → is_known same known x ≡ true
+    → is_known same (known ++ more) x ≡ true
+is_known-more same [] more x h = cc
+is_known-more same (y ∷ known) more x h =
+    elim (same y x) as (λ b. (b || is_known same known x) ≡ true → (b || is_known same (known ++ more) x) ≡ true)
+    [ true ↦ λ k. refl | false ↦ λ k. is_known-more same known more x k ] h
 
 -- whether a name is known, by the next of those that are known
 pub is_known-next : (known : List (List ℕ)) (i : ℕ) (other name : List ℕ) → slice_get known i ≡ Some other

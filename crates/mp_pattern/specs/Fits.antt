@@ -18,6 +18,10 @@ pub record Entry : Type 0 where
   pub terms : List Tree
   pub collapsed : Bool
 
+-- an entry of nothing
+abbrev pub nothing : Entry
+nothing = record { terms = []; collapsed = false }
+
 -- one entry for each node of a pattern in preorder
 abbrev pub Table : Type 0
 Table = List Entry

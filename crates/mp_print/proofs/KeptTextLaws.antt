@@ -1,7 +1,7 @@
 -- Texts that are kept of the terms of a table, and one more.
-use Rattle.std.proofs.Common.{◌≡◌, ◌<◌, ◌≤◌, ◌+◌, ◌-◌, ℕ, zero, suc, List, [], ◌∷◌, ◌++◌, length, take, drop, Some, inl}
+use Rattle.std.proofs.Common.{◌≡◌, ◌<◌, ◌≤◌, ◌+◌, ◌-◌, ℕ, List, [], ◌∷◌, ◌++◌, length, take, drop, inl}
 use Rattle.std.proofs.Common.{inr, refl, sym, ap, ◌∙◌, subst, append_assoc, append-nil, arith}
-use Rattle.std.specs.Prelude.{◌⊎◌, codes, slice_get, slice_index_or}
+use Rattle.std.specs.Prelude.{codes, slice_index_or}
 use Rattle.std.proofs.Math.Seq.{take-add, drop-append_seam}
 use Rattle.std.proofs.lemmas.List.{drop-append-le, drop-drop, drop-take, take-append-le, take_all, length-append}
 use Rattle.std.proofs.lemmas.List.{length-drop, length-take-le}
@@ -12,19 +12,11 @@ use Rattle.mp_io.specs.declared.writer.Writer.{Writer}
 use Rattle.mp_io.proofs.WritingLaws.{Puts-then}
 use Rattle.mp_term.specs.Signature.{Sig}
 use Rattle.mp_term.specs.Tree.{symbol}
+use Rattle.mp_term.proofs.ListLaws.{slice_get-pushed}
 use Rattle.mp_table.specs.Table.{Table}
 use Rattle.mp_print.specs.declared.rank_printer.Part.{Part}
 use Rattle.mp_print.specs.KeptTexts.{AreKeptTexts, IsWithin, PutsBut, part_of}
 use Rattle.mp_print.specs.Printing.{term_text}
-
--- an item of a list with one more
-slice_get-pushed : {X : Type 0} (xs : List X) (x y : X) (i : ℕ) → slice_get (xs ++ x ∷ []) i ≡ Some y
-    → (slice_get xs i ≡ Some y) ⊎ ((i ≡ length xs) × (x ≡ y))
-slice_get-pushed [] x y zero e = let p : Some x ≡ Some y = e in inr (refl, cc)
-slice_get-pushed [] x y (suc i) e = cc
-slice_get-pushed (z ∷ xs) x y zero e = inl e
-slice_get-pushed (z ∷ xs) x y (suc i) e =
-    elim (slice_get-pushed xs x y i e) [ inl h ↦ inl h | inr h ↦ inr (ap (λ n. suc n) h.0, h.1) ]
 
 -- parts side by side
 part_of-joined : (bytes : Text) (a b c : ℕ) → a ≤ b → b ≤ c

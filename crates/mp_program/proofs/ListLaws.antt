@@ -1,6 +1,5 @@
 -- Lists: first items, tests of items and places of items.
-use Rattle.std.proofs.Common.{◌≡◌, ℕ, suc, Bool, true, false, List, [], ◌∷◌, refl, ap, sym, ◌∙◌, inl, inr}
-use Rattle.std.specs.Prelude.{Some, slice_get}
+use Rattle.std.proofs.Common.{◌≡◌, Bool, true, false, List, [], ◌∷◌, refl, ap, ◌∙◌, inl, inr}
 use Rattle.std.specs.List.{list_all, list_any}
 use Rattle.std.proofs.lemmas.Bool.{and_parts}
 use Rattle.mp_term.specs.Listing.{In}
@@ -29,9 +28,3 @@ list_all-in test (y ∷ xs) x h (inl e) = ap test e ∙ (and_parts (test y) (lis
 list_all-in test (y ∷ xs) x h (inr i) = list_all-in test xs x (and_parts (test y) (list_all test xs) h).1 i
 
 -- ---- places
-
--- an item stands at some place
-pub place-in : {X : Type 0} (x : X) (xs : List X) → In x xs → (i : ℕ) × (slice_get xs i ≡ Some x)
-place-in x [] h = absurd h
-place-in x (y ∷ xs) (inl e) = (0, ap Some (sym e))
-place-in x (y ∷ xs) (inr h) = let r = place-in x xs h in (suc r.0, r.1)

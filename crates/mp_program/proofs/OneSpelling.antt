@@ -7,11 +7,11 @@ use Rattle.std.proofs.lemmas.Bool.{eqb-true}
 use Rattle.std.proofs.lemmas.Slice.Eq.{bytes_eq-Decides}
 use Rattle.mp_io.specs.Devices.{Text}
 use Rattle.mp_term.specs.Signature.{Sig}
+use Rattle.mp_term.proofs.ListLaws.{both-empty}
 use Rattle.mp_pattern.specs.CondTree.{Cond}
 use Rattle.mp_pattern.specs.Firsts.{firsts_after}
 use Rattle.mp_walk.specs.Instrs.{Instr, targets}
 use Rattle.mp_print.specs.PrintedSignature.{op_text, kind_text, signature_text}
-use Rattle.mp_build.proofs.Faultless.{nil-append}
 use Rattle.mp_program.specs.declared.fault.ProgramError.TheVariants.{BadReference}
 use Rattle.mp_program.specs.declared.format.Format.TheVariants.{One, Two}
 use Rattle.mp_program.specs.Program.{ProgramRule, Program}
@@ -97,8 +97,8 @@ begin-again (Some d) [] sig most tests rules stop line h e = absurd (h.0 refl re
 begin-again (Some d) (i ∷ is) sig most tests rules stop line h e = go (nat_eq d 1) refl
   where
     way : way_faults sig most tests rules stop line (befores (lead [] (Some d)) 1) i ≡ []
-    way = (nil-append (target_faults stop line 1 (targets i)) _
-        (nil-append (target_faults stop line 1 (targets i)
+    way = (both-empty (target_faults stop line 1 (targets i)) _
+        (both-empty (target_faults stop line 1 (targets i)
         ++ way_faults sig most tests rules stop line (befores (lead [] (Some d)) 1) i) _ e).0).1
 
     go : (v : Bool) → nat_eq d 1 ≡ v → Some 1 ≡ Some d
@@ -124,7 +124,7 @@ lines-of-program sig f two right none =
     ∙ ap (λ l. (codes "matchpy program " ++ decimal 2) ∷ l)
     (sym (append_assoc f.ops f.kinds behind)
     ∙ ap (λ l. l ++ behind) (sym (declared-same 2 (lines_of (signature_text sig)) (f.ops ++ f.kinds)
-    (nil-append (faults_of_declarations sig f) _ none).0) ∙ declared)
+    (both-empty (faults_of_declarations sig f) _ none).0) ∙ declared)
     ∙ append_assoc (lines_of (flat_map op_text sig.ops)) (lines_of (flat_map kind_text sig.kinds)) behind
     ∙ ap (λ l. lines_of (flat_map op_text sig.ops) ++ (lines_of (flat_map kind_text sig.kinds) ++ l)) same)
   where
@@ -139,9 +139,9 @@ lines-of-program sig f two right none =
     rules = subst (λ n. AllByRecursion (IsRightRule sig n) f.rules) two right.rules
 
     code_none : faults_of_code sig f ≡ []
-    code_none = (nil-append (faults_of_begin sig f) _ (nil-append (faults_of_unused sig f) _
-        (nil-append (faults_of_rules sig f) _ (nil-append (faults_of_tests sig f) _
-        (nil-append (faults_of_declarations sig f) _ none).1).1).1).1).1
+    code_none = (both-empty (faults_of_begin sig f) _ (both-empty (faults_of_unused sig f) _
+        (both-empty (faults_of_rules sig f) _ (both-empty (faults_of_tests sig f) _
+        (both-empty (faults_of_declarations sig f) _ none).1).1).1).1).1
 
     again : List RuleLine
     again = map line_of_rule (map (rule_of sig (tests_of sig f)) f.rules)

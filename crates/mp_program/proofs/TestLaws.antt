@@ -14,6 +14,7 @@ use Rattle.mp_pattern.specs.Firsts.{is_known, add_new, firsts_after}
 use Rattle.mp_pattern.specs.NetTokens.{number_in}
 use Rattle.mp_pattern.specs.Value.{same_name}
 use Rattle.mp_pattern.proofs.PlanLaws.{firsts_after-append}
+use Rattle.mp_pattern.proofs.UsedNameLaws.{is_known-more}
 use Rattle.mp_print.specs.PrintedCond.{cond_text}
 use Rattle.mp_build.proofs.Declared.{bytes_eq_comm}
 use Rattle.mp_program.specs.Program.{ProgramRule}
@@ -22,17 +23,6 @@ use Rattle.mp_program.specs.ProgramOf.{renamed_cond, renamed_conds, same_cond, c
 use Rattle.mp_program.specs.ProgramOf.{rule_of}
 
 -- ---- items, each once
-
-module _ {X : Type 0} (same : X → X → Bool) where
-  -- a known item is known among more
-  known-more : (ys zs : List X) (x : X) → is_known same ys x ≡ true → is_known same (ys ++ zs) x ≡ true
-  known-more [] zs x h = (let wrong : false ≡ true = h in cc)
-  known-more (y ∷ ys) zs x h = go (same y x) h (known-more ys zs x)
-    where
-      go : (b : Bool) → (b || is_known same ys x) ≡ true
-          → (is_known same ys x ≡ true → is_known same (ys ++ zs) x ≡ true) → (b || is_known same (ys ++ zs) x) ≡ true
-      go true h rest = refl
-      go false h rest = rest h
 
 -- the tests that lines spell
 abbrev pub spelled_tests : List RuleLine → List Cond
@@ -152,7 +142,7 @@ module _ (sig : Sig) where
       → cond_place sig (firsts_after (same_cond sig) ts xs) c ≡ cond_place sig ts c
   place-kept [] ts c h = refl
   place-kept (x ∷ xs) ts c h = go (is_known (same_cond sig) ts x) (place-kept xs ts c h)
-      (place-kept xs (ts ++ x ∷ []) c (known-more (same_cond sig) ts (x ∷ []) c h) ∙ place-more ts (x ∷ []) c h)
+      (place-kept xs (ts ++ x ∷ []) c (is_known-more (same_cond sig) ts (x ∷ []) c h) ∙ place-more ts (x ∷ []) c h)
     where
       go : (b : Bool) → cond_place sig (firsts_after (same_cond sig) ts xs) c ≡ cond_place sig ts c
           → cond_place sig (firsts_after (same_cond sig) (ts ++ x ∷ []) xs) c ≡ cond_place sig ts c

@@ -5,6 +5,7 @@ use Rattle.std.specs.List.{AllByRecursion, list_any, list_all}
 use Rattle.std.proofs.lemmas.Bool.{and_parts, and_from}
 use Rattle.std.proofs.lemmas.Bool.Decides.{nat_tests}
 use Rattle.mp_term.specs.Signature.{Sig}
+use Rattle.mp_term.proofs.ListLaws.{both-empty}
 use Rattle.mp_pattern.specs.declared.limits.TheConstants.{MAX_VARIABLES}
 use Rattle.mp_pattern.specs.CondTree.{Cond}
 use Rattle.mp_pattern.specs.EachWildcard.{EachWildcard, AllEachWildcard}
@@ -14,7 +15,7 @@ use Rattle.mp_pattern.specs.PatternTree.{app_pattern, wild_pattern, Patterns, no
 use Rattle.mp_walk.specs.Instrs.{Instr, targets}
 use Rattle.mp_walk.specs.SoundTokens.{path_nodes}
 use Rattle.mp_walk.specs.Walkable.{Path}
-use Rattle.mp_build.proofs.Faultless.{nil-append, nil-both}
+use Rattle.mp_build.proofs.Faultless.{nil-both}
 use Rattle.mp_program.specs.declared.fault.ProgramError.{ProgramError}
 use Rattle.mp_program.specs.declared.fault.ProgramError.TheVariants.{BackwardTarget, BadReference, Unbalanced}
 use Rattle.mp_program.specs.declared.format.Format.TheVariants.{One, Two}
@@ -75,7 +76,7 @@ code-right sig (i ∷ is) h = (
 two-again : (a b a' b' : Bool) (f g f' g' : ProgramError) → (a ≡ false → a' ≡ false) → (b ≡ false → b' ≡ false)
     → fault_if a f ++ fault_if b g ≡ [] → fault_if a' f' ++ fault_if b' g' ≡ []
 two-again a b a' b' f g f' g' first second none =
-    let both = nil-append (fault_if a f) (fault_if b g) none in
+    let both = both-empty (fault_if a f) (fault_if b g) none in
     let here = first (nil-fault_if a f both.0) in
     let behind = second (nil-fault_if b g both.1) in
     λ i. fault_if (here i) f' ++ fault_if (behind i) g'
@@ -133,8 +134,8 @@ module _ (sig : Sig) (most more : ℕ) (grows : most ≤ more) (tests : List Con
         let targeted = target_faults stop line n (targets i) in
         let led = way_faults sig most tests rules stop line (befores ls n) i in
         let behind = code_faults sig most tests rules stop (suc line) (suc n) (leads_after ls n i) is in
-        let both = nil-append (targeted ++ led) behind none in
-        let here = nil-append targeted led both.0 in
+        let both = both-empty (targeted ++ led) behind none in
+        let here = both-empty targeted led both.0 in
         nil-both (target_faults stop at n (targets i) ++ way_faults sig more tests rules stop at (befores ls n) i)
         (code_faults sig more tests rules stop (suc at) (suc n) (leads_after ls n i) is)
         (nil-both (target_faults stop at n (targets i)) (way_faults sig more tests rules stop at (befores ls n) i)

@@ -9,7 +9,7 @@ use Rattle.std.proofs.lemmas.List.{length-map, length-append}
 use Rattle.mp_io.specs.Devices.{Text}
 use Rattle.mp_term.specs.Names.{is_name}
 use Rattle.mp_term.specs.Signature.{Sig}
-use Rattle.mp_term.proofs.ListLaws.{all-split, all-append, all-also, all-map}
+use Rattle.mp_term.proofs.ListLaws.{all-split, all-append, all-also, all-map, both-empty}
 use Rattle.mp_term.proofs.ListingLaws.{all_in}
 use Rattle.mp_term.proofs.SearchLaws.{all-from_in}
 use Rattle.mp_pattern.specs.declared.limits.TheConstants.{MAX_RULES, MAX_VARIABLES}
@@ -21,7 +21,7 @@ use Rattle.mp_walk.specs.Walkable.{numbered_names}
 use Rattle.mp_print.specs.Printing.{preceded}
 use Rattle.mp_print.specs.PrintedCond.{cond_text}
 use Rattle.mp_print.specs.PrintedSignature.{op_text, kind_text, signature_text}
-use Rattle.mp_build.proofs.Faultless.{nil-append, nil-both}
+use Rattle.mp_build.proofs.Faultless.{nil-both}
 use Rattle.mp_round_trip.specs.Readable.{IsSpelledSignature, IsReadableCondition}
 use Rattle.mp_program.specs.declared.format.Format.TheVariants.{One, Two}
 use Rattle.mp_program.specs.Program.{ProgramRule, Program}
@@ -136,15 +136,15 @@ module _ (sig : Sig) (names_spelled : IsSpelledSignature sig)
   -- ---- what isn't wrong with them
 
   none_declared : faults_of_declarations sig f ≡ []
-  none_declared = (nil-append (faults_of_declarations sig f) _ none).0
+  none_declared = (both-empty (faults_of_declarations sig f) _ none).0
 
   none_tested : (faults_of_rules sig f ≡ [])
       × (faults_of_unused sig f ++ (faults_of_begin sig f ++ faults_of_code sig f) ≡ [])
-  none_tested = nil-append (faults_of_rules sig f) _
-      (nil-append (faults_of_tests sig f) _ (nil-append (faults_of_declarations sig f) _ none).1).1
+  none_tested = both-empty (faults_of_rules sig f) _
+      (both-empty (faults_of_tests sig f) _ (both-empty (faults_of_declarations sig f) _ none).1).1
 
   none_later : (faults_of_begin sig f ≡ []) × (faults_of_code sig f ≡ [])
-  none_later = nil-append (faults_of_begin sig f) _ (nil-append (faults_of_unused sig f) _ none_tested.1).1
+  none_later = both-empty (faults_of_begin sig f) _ (both-empty (faults_of_unused sig f) _ none_tested.1).1
 
   rules_right : AllByRecursion (IsRightRule sig One) f.rules
   rules_right = subst (λ n. AllByRecursion (IsRightRule sig n) f.rules) one right.rules

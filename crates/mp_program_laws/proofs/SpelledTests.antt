@@ -10,7 +10,7 @@ use Rattle.std.proofs.lemmas.Slice.Eq.{bytes_eq-Decides}
 use Rattle.mp_io.specs.Devices.{Text}
 use Rattle.mp_term.specs.Listing.{In}
 use Rattle.mp_term.specs.Signature.{Sig}
-use Rattle.mp_term.proofs.ListLaws.{all-split}
+use Rattle.mp_term.proofs.ListLaws.{all-split, both-empty}
 use Rattle.mp_term.proofs.SearchLaws.{in-right, in-flat}
 use Rattle.mp_pattern.specs.CondTree.{Cond}
 use Rattle.mp_pattern.specs.Firsts.{is_known, firsts_after}
@@ -18,7 +18,6 @@ use Rattle.mp_pattern.specs.Value.{same_name}
 use Rattle.mp_pattern.proofs.PlanLaws.{firsts_after-append}
 use Rattle.mp_theory.proofs.FirstsLaws.{Distinct, distinct-firsts}
 use Rattle.mp_print.specs.PrintedCond.{cond_text}
-use Rattle.mp_build.proofs.Faultless.{nil-append}
 use Rattle.mp_program.specs.declared.fault.ProgramError.{ProgramError}
 use Rattle.mp_program.specs.declared.fault.ProgramError.TheVariants.{BadReference}
 use Rattle.mp_program.specs.Form.{RuleTest, untested, tested, spelled, RuleLine}
@@ -44,7 +43,7 @@ along-at faults before [] (y ∷ front) a back line none e = (let wrong : [] ≡
 along-at faults before (x ∷ xs) [] a back line none e =
     let all : x ∷ xs ≡ a ∷ back = e in
     let is : x ≡ a = cc in
-    let both = nil-append (faults before line x) (faults_along faults (before ++ x ∷ []) (suc line) xs) none in (
+    let both = both-empty (faults before line x) (faults_along faults (before ++ x ∷ []) (suc line) xs) none in (
       line,
       subst (λ l. faults l line a ≡ []) (sym (append-nil before)) (subst (λ y. faults before line y ≡ []) is both.0),
     )
@@ -52,7 +51,7 @@ along-at faults before (x ∷ xs) (y ∷ front) a back line none e =
     let all : x ∷ xs ≡ y ∷ (front ++ a ∷ back) = e in
     let is : x ≡ y = cc in
     let behind : xs ≡ front ++ a ∷ back = cc in
-    let both = nil-append (faults before line x) (faults_along faults (before ++ x ∷ []) (suc line) xs) none in
+    let both = both-empty (faults before line x) (faults_along faults (before ++ x ∷ []) (suc line) xs) none in
     let rest = along-at faults (before ++ x ∷ []) xs front a back (suc line) both.1 behind in (
       rest.0,
       subst (λ l. faults l rest.0 a ≡ []) (append_assoc before (x ∷ []) front

@@ -1,9 +1,10 @@
 -- What a cancellation takes first is what the first substitution of its rule's one-list says.
-use Rattle.std.proofs.Common.{◌≡◌, ◌∙◌, ap, sym, refl, subst, ℕ, ◌+◌, ◌≤◌, Bool, true, false, ◌&&◌, not}
+use Rattle.std.proofs.Common.{◌≡◌, ◌∙◌, ap, sym, refl, subst, ℕ, ◌+◌, ◌≤◌, true, false, ◌&&◌, not}
 use Rattle.std.proofs.Common.{List, [], ◌∷◌, ◌++◌, length, arith, inl, inr, append-nil}
 use Rattle.std.specs.Prelude.{Option, slice_get, Some, None, if◌then◌else◌}
 use Rattle.std.specs.declared.cmp.Ordering.TheVariants.{Less}
 use Rattle.std.specs.List.{AllByRecursion}
+use Rattle.std.proofs.Math.Bool.{and-false}
 use Rattle.mp_term.specs.Tree.{Tree, symbol, app, trees}
 use Rattle.mp_term.specs.Order.{tree_cmp}
 use Rattle.mp_term.specs.OrderLaws.{tree_cmp_total, tree_same}
@@ -354,10 +355,6 @@ module _ (sig : Sig) (g : ℕ) (ts rest : List Tree) (w : Wildcard) (h : HasRest
 
       same-above : (v : Tree) → above v ≡ above b → v ≡ b
       same-above v e = single v b (app-trees k k (v ∷ []) (b ∷ []) e)
-
-      and-false : (c : Bool) → (c && false) ≡ false
-      and-false true = refl
-      and-false false = refl
 
       under-before : (s : Subst) (V : Table)
           (l m n : List Tree) (ls : List (List Tree)) (Ts : List Table) (T1 T2 T3 : Table)

@@ -13,7 +13,7 @@ use Rattle.std.proofs.lemmas.Cmp.{tied_itself}
 use Rattle.std.proofs.lemmas.List.{length-map, take_more, take_all}
 use Rattle.std.proofs.lemmas.Option.{slice_get_within}
 use Rattle.mp_term.specs.Pieces.{same}
-use Rattle.mp_term.proofs.PiecesLaws.{same-sound, same-itself}
+use Rattle.mp_term.proofs.PiecesLaws.{same-itself}
 use Rattle.mp_rewrite.proofs.Places.{first_of, map-get_or}
 use Rattle.mp_term.specs.Tree.{Tree, symbol, app, trees}
 use Rattle.mp_term.specs.Order.{tree_cmp}
@@ -27,6 +27,7 @@ use Rattle.mp_term.specs.declared.term.OpId.{OpId}
 use Rattle.mp_term.specs.declared.term.Term.{Term}
 use Rattle.mp_term.specs.Signature.{Sig, is_assoc, is_comm}
 use Rattle.mp_term.specs.View.{tree}
+use Rattle.mp_term.proofs.TestLaws.{below_or_last, below_or_not}
 use Rattle.mp_pattern.specs.PatternTree.{Pattern}
 use Rattle.mp_rewrite.specs.declared.cancellation.Taken.{Taken}
 use Rattle.mp_rewrite.specs.declared.taken.Places.{Places}
@@ -40,6 +41,7 @@ use Rattle.mp_rewrite.proofs.PutBack.{in_order-ascending, put_one}
 use Rattle.mp_rewrite.specs.Cancellation.{taking, taken_terms, AreApart, AreFirst, NoneLess, TakesAlone, IsPairAt}
 use Rattle.mp_rewrite.specs.Cancellation.{IsUnderAt}
 use Rattle.mp_rewrite.specs.Cancellation.{IsBoth, IsOnly}
+use Rattle.mp_one.proofs.SameLaws.{tree_sound}
 
 -- what one child takes
 pub taken-one : {X : Type 0} (f : X → Pattern) (xs : List X) (x : X) (y : List ℕ) (o : Option Taken) → 1 ≤ length xs
@@ -286,23 +288,13 @@ module _ (sig : Sig) (d : Cancellation) (ts : List Tree) where
 
 -- ---- the loops
 
-upto-last : (k i : ℕ) → k < suc i → (k < i) ⊎ (k ≡ i)
-upto-last zero zero l = inr refl
-upto-last zero (suc i) l = inl (omega arith)
-upto-last (suc k) zero l = absurd (omega (arith, l))
-upto-last (suc k) (suc i) l = elim (upto-last k i (omega (arith, l)))
-    [ inl h ↦ inl (omega (arith, h)) | inr e ↦ inr (ap suc e) ]
-
-same-tree : (a b : Tree) → same tree_cmp a b ≡ true → a ≡ b
-same-tree = same-sound tree_cmp tree_cmp_total tree_same
-
 pub pair-here : (ts : List Tree) (i : ℕ) (a b : Tree) (e : Bool) → slice_get ts i ≡ Some a
     → slice_get ts (i + 1) ≡ Some b → e ≡ same tree_cmp a b → e ≡ true
     → ((k : ℕ) → k < i → slice_get ts k ≡ slice_get ts (suc k) → ⊥) → IsPairAt ts i
 pair-here ts i a b e g h q t none = record {
   b = a;
   here = g;
-  behind = ap (slice_get ts) (sym (add-one i)) ∙ h ∙ ap Some (sym (same-tree a b (sym q ∙ t)));
+  behind = ap (slice_get ts) (sym (add-one i)) ∙ h ∙ ap Some (sym (tree_sound a b (sym q ∙ t)));
   none = none;
 }
 
@@ -311,7 +303,7 @@ pub pair-step : (ts : List Tree) (i : ℕ) (a b : Tree) (e : Bool) → slice_get
     → ((k : ℕ) → k < i → slice_get ts k ≡ slice_get ts (suc k) → ⊥)
     → (k : ℕ) → k < i + 1 → slice_get ts k ≡ slice_get ts (suc k) → ⊥
 pair-step ts i a b e g h q f none k l s =
-    elim (upto-last k i (omega (arith, l))) [
+    elim (below_or_last k i (omega (arith, l))) [
       | inl less ↦ none k less s
       | inr last ↦
           let r : Some a ≡ Some b = sym g ∙ ap (slice_get ts) (sym last) ∙ s
@@ -342,7 +334,7 @@ under-here f k ts i n t g h none = record {
 pub under-step : (f k : ℕ) (ts : List Tree) (i : ℕ) (t : Tree) → slice_get ts i ≡ Some t
     → ((v : Tree) → t ≡ app k (trees (v ∷ [])) → (has_head f v ≡ false) × (tally tree_cmp v ts ≡ 0))
     → NoneTo f k ts i → NoneTo f k ts (i + 1)
-under-step f k ts i t g h none n v l e = elim (upto-last n i (omega (arith, l))) [
+under-step f k ts i t g h none n v l e = elim (below_or_last n i (omega (arith, l))) [
   | inl less ↦ none n v less e
   | inr last ↦ h v (let r : Some t ≡ Some (app k (trees (v ∷ []))) = sym g ∙ ap (slice_get ts) (sym last) ∙ e in
       let s : t ≡ app k (trees (v ∷ [])) = cc in s)
@@ -352,17 +344,11 @@ under-step f k ts i t g h none n v l e = elim (upto-last n i (omega (arith, l)))
 pub not-found : {Y : Type 0} (f : Y → Tree) (ys : List Y) (i : ℕ) (x : Tree)
     → IsPartitionPoint (λ y. tree_cmp (f y) x ≡ Less) (λ y. tree_cmp (f y) x ≡ Greater) ys i
     → tally tree_cmp x (map f ys) ≡ 0
-not-found {Y = Y} f ys i x p = tally-none x (map f ys) (λ k d l e. elim (below-or-on k i) [
+not-found {Y = Y} f ys i x p = tally-none x (map f ys) (λ k d l e. elim (below_or_not k i) [
   | inl less ↦ apart k d l e (λ y w. inl (p.0 k y (omega arith) less))
   | inr on ↦ apart k d l e (λ y w. inr (p.1 k y on w))
 ])
   where
-    below-or-on : (k i : ℕ) → (k < i) ⊎ (i ≤ k)
-    below-or-on k zero = inr (omega arith)
-    below-or-on zero (suc i) = inl (omega arith)
-    below-or-on (suc k) (suc i) = elim (below-or-on k i)
-        [ inl h ↦ inl (omega (arith, h)) | inr h ↦ inr (omega (arith, h)) ]
-
     apart : (k : ℕ) (d : Tree) → k < length (map f ys) → tree_cmp (get_or (map f ys) k d) x ≡ Equal
         → ((y : Y) → k < length ys
         → (tree_cmp (f (get_or ys k y)) x ≡ Less) ⊎ (tree_cmp (f (get_or ys k y)) x ≡ Greater)) → ⊥

@@ -8,6 +8,7 @@ use Rattle.std.proofs.lemmas.Option.{slice_get-map, slice_get_read}
 use Rattle.mp_term.specs.Tree.{Tree, symbol, app, trees}
 use Rattle.mp_term.specs.Size.{node_count, all_nodes}
 use Rattle.mp_term.specs.Signature.{Sig}
+use Rattle.mp_term.proofs.ListLaws.{drop-held}
 use Rattle.mp_pattern.specs.Admission.{Rule}
 use Rattle.mp_rewrite.specs.Computed.{Match, Redex, at_argument, first_match, first_redex, first_below}
 
@@ -16,12 +17,6 @@ pub mapped-at : {X Y : Type 0} (f : X → Y) (xs : List X) (ys : List Y) (i : �
     → x ≡ get_or xs i x → slice_get ys i ≡ Some (f x)
 mapped-at f xs ys i x e l is = ap (λ zs. slice_get zs i) (sym e) ∙ slice_get-map f xs i
     ∙ ap (option_map f) (slice_get_read xs (length xs) i x refl l is)
-
--- an argument by its index: the items from there on, what holds of it, and its nodes
-pub drop-at : {X : Type 0} (xs : List X) (i : ℕ) (x : X) → slice_get xs i ≡ Some x → drop i xs ≡ x ∷ drop (suc i) xs
-drop-at [] i x e = cc
-drop-at (y ∷ xs) zero x e = let s : y ≡ x = cc in ap (λ z. z ∷ xs) s
-drop-at (y ∷ xs) (suc i) x e = drop-at xs i x e
 
 pub nodes-at : (ts : List Tree) (i : ℕ) (t : Tree) → slice_get ts i ≡ Some t → node_count t ≤ all_nodes ts
 nodes-at [] i t e = cc
@@ -54,14 +49,14 @@ module _ (sig : Sig) (rules : List Rule) where
   pub below-Some : (ts : List Tree) (i : ℕ) (t : Tree) (r : Redex) → slice_get ts i ≡ Some t
       → first_redex sig rules t ≡ Some r → first_below sig rules i (trees (drop i ts)) ≡ Some (at_argument i r)
   below-Some ts i t r e h =
-      ap (λ us. first_below sig rules i (trees us)) (drop-at ts i t e)
+      ap (λ us. first_below sig rules i (trees us)) (drop-held ts i t e)
       ∙ ap (λ o. option_or (option_map (at_argument i) o) (first_below sig rules (suc i) (trees (drop (suc i) ts)))) h
 
   -- an argument that has none is passed over
   pub below-None : (ts : List Tree) (i : ℕ) (t : Tree) → slice_get ts i ≡ Some t → first_redex sig rules t ≡ None
       → first_below sig rules i (trees (drop i ts)) ≡ first_below sig rules (suc i) (trees (drop (suc i) ts))
   below-None ts i t e h =
-      ap (λ us. first_below sig rules i (trees us)) (drop-at ts i t e)
+      ap (λ us. first_below sig rules i (trees us)) (drop-held ts i t e)
       ∙ ap (λ o. option_or (option_map (at_argument i) o) (first_below sig rules (suc i) (trees (drop (suc i) ts)))) h
 
   -- there is none behind the arguments

@@ -6,6 +6,7 @@ use Rattle.std.proofs.lemmas.Option.{slice_get_within, get_or_from_slice_get}
 use Rattle.mp_term.specs.Tree.{Tree}
 use Rattle.mp_term.specs.Signature.{Sig}
 use Rattle.mp_term.specs.Normal.{IsNormal}
+use Rattle.mp_term.proofs.ReplaceLaws.{neither}
 use Rattle.mp_pattern.specs.Value.{Subst}
 use Rattle.mp_pattern.specs.Admission.{Rule, Admits}
 use Rattle.mp_pattern.specs.Lists.{IsOneList}
@@ -15,11 +16,6 @@ use Rattle.mp_theory.proofs.Unique.{IsOneList-unique}
 use Rattle.mp_rewrite.specs.Computed.{Match, rule_match, first_match}
 
 -- ---- options and lists
-
--- neither of two options is there
-pub both-None : {X : Type 0} (o p : Option X) → option_or o p ≡ None → (o ≡ None) × (p ≡ None)
-both-None None p e = (refl, e)
-both-None (Some x) p e = cc
 
 -- the item at an index is one of the list
 pub Contains-slice_get : {X : Type 0} (xs : List X) (n : ℕ) (x : X) → slice_get xs n ≡ Some x → Contains xs x
@@ -77,8 +73,8 @@ module _ (sig : Sig) (t : Tree) where
     first_match-None [] e n r held s a = cc
     first_match-None (q ∷ rs) e zero r held s a =
         let same : q ≡ r = cc in
-        rule_match-None r (subst (λ x. rule_match sig x t ≡ None) same (both-None _ _ e).0) s a
-    first_match-None (q ∷ rs) e (suc n) r held s a = first_match-None rs (both-None _ _ e).1 n r held s a
+        rule_match-None r (subst (λ x. rule_match sig x t ≡ None) same (neither _ _ e).0) s a
+    first_match-None (q ∷ rs) e (suc n) r held s a = first_match-None rs (neither _ _ e).1 n r held s a
 
     behind : (q : Rule) (rs : List Rule) (m : Match) → rule_match sig q t ≡ None → IsFirstMatch rs m
         → IsFirstMatch (q ∷ rs) m

@@ -14,6 +14,7 @@ use Rattle.mp_term.specs.Tree.{Tree}
 use Rattle.mp_term.specs.Order.{tree_cmp}
 use Rattle.mp_term.specs.OrderLaws.{tree_cmp_total, tree_same}
 use Rattle.mp_term.proofs.Sorting.{AtLeast, Ascends}
+use Rattle.mp_term.proofs.TestLaws.{not_less-flipped}
 
 -- a list without one item, and mapped
 pub map-remove : {X Y : Type 0} (f : X → Y) (xs : List X) (i : ℕ) → map f (remove xs i) ≡ remove (map f xs) i
@@ -75,11 +76,6 @@ ascends-between (t ∷ ts) (suc i) x n h below above = (
   ascends-between ts i x (omega arith) h.1 (λ k d l. below (suc k) d (omega arith))
       (λ k d l m. above (suc k) d (omega arith) (omega arith)),
 )
-
-not_less-flipped : (r s : Ordering) → s ≡ ordering_reverse r → is_gt r ≡ false → is_lt s ≡ false
-not_less-flipped Less s e h = rw e refl
-not_less-flipped Equal s e h = rw e refl
-not_less-flipped Greater s e h = cc
 
 -- what ascends is sorted
 pub sorted-from_ascends : {Y : Type 0} (f : Y → Tree) (ys : List Y) → Ascends tree_cmp (map f ys)

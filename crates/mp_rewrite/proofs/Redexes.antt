@@ -13,10 +13,10 @@ use Rattle.mp_term.specs.Tree.{Tree, symbol, app, Trees, no_trees, more_trees, t
 use Rattle.mp_term.specs.OrderLaws.{nats_same}
 use Rattle.mp_term.specs.Positions.{subterm}
 use Rattle.mp_term.specs.Signature.{Sig}
+use Rattle.mp_term.proofs.ReplaceLaws.{neither}
 use Rattle.mp_pattern.specs.Admission.{Rule}
 use Rattle.mp_rewrite.specs.Step.{Precedes}
 use Rattle.mp_rewrite.specs.Computed.{Match, Redex, at_argument, first_match, root_redex, first_redex, first_below}
-use Rattle.mp_rewrite.proofs.Matches.{both-None}
 
 -- ---- the order of positions
 
@@ -85,15 +85,15 @@ module _ (sig : Sig) (rules : List Rule) where
     first_redex-None (app f ts) e [] u at =
         let same : app f ts ≡ u = cc in
         subst (λ t. first_match sig rules t ≡ None) same
-        (root-None (app f ts) (first_match sig rules (app f ts)) refl (both-None _ _ e).0)
-    first_redex-None (app f ts) e (k ∷ p) u at = first_below-None 0 ts (both-None _ _ e).1 k p u at
+        (root-None (app f ts) (first_match sig rules (app f ts)) refl (neither _ _ e).0)
+    first_redex-None (app f ts) e (k ∷ p) u at = first_below-None 0 ts (neither _ _ e).1 k p u at
 
     first_below-None : (i : ℕ) (ts : Trees) → first_below sig rules i ts ≡ None → (k : ℕ) (p : List ℕ) (u : Tree)
         → below ts k p ≡ Some u → first_match sig rules u ≡ None
     first_below-None i no_trees e k p u at = cc
     first_below-None i (more_trees t ts) e zero p u at =
-        first_redex-None t (at_argument-None i (first_redex sig rules t) (both-None _ _ e).0) p u at
-    first_below-None i (more_trees t ts) e (suc k) p u at = first_below-None (suc i) ts (both-None _ _ e).1 k p u at
+        first_redex-None t (at_argument-None i (first_redex sig rules t) (neither _ _ e).0) p u at
+    first_below-None i (more_trees t ts) e (suc k) p u at = first_below-None (suc i) ts (neither _ _ e).1 k p u at
 
   root-Some : (t : Tree) (r : Redex) (o : Option Match) → first_match sig rules t ≡ o
       → option_map (λ (m : Match). let x : Redex = record { position = []; «match» = m } in x) o ≡ Some r

@@ -21,6 +21,7 @@ use Rattle.mp_term.specs.Normal.{IsNormal, in_order, collapsed}
 use Rattle.mp_term.specs.NormalTest.{ascending}
 use Rattle.mp_term.proofs.Sorting.{tally, AtLeast, Ascends}
 use Rattle.mp_term.proofs.NormalTestLaws.{ascending-from, sorted-ascending}
+use Rattle.mp_term.proofs.ListLaws.{drop-held}
 use Rattle.mp_pattern.specs.Admission.{Rule}
 use Rattle.mp_pattern.specs.Step.{stepped}
 use Rattle.mp_rewrite.specs.Computed.{first_match, next_step, rewriting_from}
@@ -33,22 +34,18 @@ use Rattle.mp_rewrite.specs.declared.cancelled.Cancelled.{Cancelled}
 use Rattle.mp_rewrite.proofs.CallAnswers.{after_step}
 use Rattle.mp_rewrite.proofs.PutBack.{arguments-pass, ascends-from, sorted_same, tally-append}
 use Rattle.mp_rewrite.proofs.Places.{not_above-itself}
-use Rattle.mp_rewrite.proofs.FirstRedexes.{drop-at}
 use Rattle.mp_rewrite.proofs.CancellationSteps.{first-pair, pair-here, pair-step, not_more}
 use Rattle.mp_rewrite.proofs.CancellationTurns.{same-terms, IsFirstCancelled, cancelled-turn, cancelled-rewritable}
+use Rattle.mp_subst.proofs.TrailLaws.{get-behind}
 
 -- ---- items at a place in a list
 
-get-at : {X : Type 0} (xs ys : List X) (x : X) → slice_get (xs ++ x ∷ ys) (length xs) ≡ Some x
-get-at [] ys x = refl
-get-at (z ∷ xs) ys x = get-at xs ys x
-
-get-behind : {X : Type 0} (xs ys : List X) (x y : X) → slice_get (xs ++ x ∷ y ∷ ys) (suc (length xs)) ≡ Some y
-get-behind [] ys x y = refl
-get-behind (z ∷ xs) ys x y = get-behind xs ys x y
+get-second : {X : Type 0} (xs ys : List X) (x y : X) → slice_get (xs ++ x ∷ y ∷ ys) (suc (length xs)) ≡ Some y
+get-second [] ys x y = refl
+get-second (z ∷ xs) ys x y = get-second xs ys x y
 
 get-next : {X : Type 0} (xs ys : List X) (x y : X) → slice_get (xs ++ x ∷ y ∷ ys) (length xs + 1) ≡ Some y
-get-next xs ys x y = ap (slice_get (xs ++ x ∷ y ∷ ys)) (add-one (length xs)) ∙ get-behind xs ys x y
+get-next xs ys x y = ap (slice_get (xs ++ x ∷ y ∷ ys)) (add-one (length xs)) ∙ get-second xs ys x y
 
 remove-both : {X : Type 0} (xs ys : List X) (x y : X)
     → remove (remove (xs ++ x ∷ y ∷ ys) (suc (length xs))) (length xs) ≡ xs ++ ys
@@ -64,14 +61,14 @@ pub drop-two : (ts : List Tree) (i : ℕ) (x y : Tree) → slice_get ts i ≡ So
     → drop i ts ≡ x ∷ y ∷ drop (i + 2) ts
 drop-two ts i x y g h =
     let two : suc (suc i) ≡ i + 2 = omega arith in
-    drop-at ts i x g
-    ∙ ap (λ l. x ∷ l) (drop-at ts (suc i) y (ap (slice_get ts) (sym (add-one i)) ∙ h) ∙ ap (λ n. y ∷ drop n ts) two)
+    drop-held ts i x g
+    ∙ ap (λ l. x ∷ l) (drop-held ts (suc i) y (ap (slice_get ts) (sym (add-one i)) ∙ h) ∙ ap (λ n. y ∷ drop n ts) two)
 
 pub drop-next : (ts : List Tree) (i : ℕ) (y : Tree) → slice_get ts (i + 1) ≡ Some y
     → y ∷ drop (i + 2) ts ≡ drop (i + 1) ts
 drop-next ts i y h =
     let two : i + 2 ≡ suc (i + 1) = omega arith in
-    ap (λ n. y ∷ drop n ts) two ∙ sym (drop-at ts (i + 1) y h)
+    ap (λ n. y ∷ drop n ts) two ∙ sym (drop-held ts (i + 1) y h)
 
 pub one-there : (ts : List Tree) (i : ℕ) (x y : Tree) → slice_get ts i ≡ Some x → slice_get ts i ≡ Some y → x ≡ y
 one-there ts i x y g h = let s : Some x ≡ Some y = sym g ∙ h in cc
@@ -236,7 +233,7 @@ module _ (sig : Sig) (rules : List Rule) (d : Cancellation) where
         room = subst (Ascends tree_cmp)
             (sym (append_assoc kept (x ∷ []) (y ∷ (ahead ++ (copies d.put (suc made) ++ behind))))) h.room;
         apart = subst (λ l. (k : ℕ) → k < length (kept ++ x ∷ []) → slice_get l k ≡ slice_get l (suc k) → ⊥) e
-            (λ k l. pair-step (kept ++ (x ∷ y ∷ Z)) (length kept) x y b (get-at kept (y ∷ Z) x)
+            (λ k l. pair-step (kept ++ (x ∷ y ∷ Z)) (length kept) x y b (get-behind kept (y ∷ Z) x)
             (get-next kept Z x y) q f h.apart k (omega (arith, l, n)));
       }
 
@@ -274,7 +271,7 @@ module _ (sig : Sig) (rules : List Rule) (d : Cancellation) where
     all = omega (arith, length-append kept (x ∷ y ∷ others))
 
     pair : IsPairAt ts (length kept)
-    pair = pair-here ts (length kept) x y b (get-at kept (y ∷ others) x) (get-next kept others x y) q e h.apart
+    pair = pair-here ts (length kept) x y b (get-behind kept (y ∷ others) x) (get-next kept others x y) q e h.apart
 
     both : IsBoth (length kept) (length kept + 1) places
     both = record { less = λ l. refl; more = λ m. absurd (omega (arith, m)) }

@@ -26,6 +26,7 @@ use Rattle.mp_term.specs.Replaced.{replaced}
 use Rattle.mp_term.proofs.ReplacedLaws.{edited-one, formed-replaced}
 use Rattle.mp_term.proofs.WellFormedNormal.{wf-normal}
 use Rattle.mp_term.proofs.NormalSize.{node_count-normal, depth-normal, normal-normal}
+use Rattle.mp_term.proofs.ReplaceLaws.{neither}
 use Rattle.mp_rewrite.specs.Step.{IsLive, IsDead, IsStep}
 use Rattle.mp_rewrite.specs.Rewriting as ending
 use Rattle.mp_rewrite.specs.Rewriting.{Rewriting, done, more, IsRewritingFrom, IsRewriting}
@@ -33,7 +34,7 @@ use Rattle.mp_rewrite.specs.Made.{IsReady}
 use Rattle.mp_rewrite.specs.Rewritable.{HasTemplate, AreRewriteRules, IsRewritable}
 use Rattle.mp_rewrite.specs.Computed.{Match, Redex, only, one_term, instance_of, step_to, step_at, first_match}
 use Rattle.mp_rewrite.specs.Computed.{first_redex, next_step, rewriting_from, rewriting}
-use Rattle.mp_rewrite.proofs.Matches.{both-None, Contains-slice_get, IsFirstMatch, Admits-listed}
+use Rattle.mp_rewrite.proofs.Matches.{Contains-slice_get, IsFirstMatch, Admits-listed}
 use Rattle.mp_rewrite.proofs.Matches.{first_match-None, first_match-Some}
 use Rattle.mp_rewrite.proofs.Matches.{first_match-is}
 use Rattle.mp_rewrite.proofs.Redexes.{IsFirstRedex, first_redex-None, first_redex-Some, first_redex-is}
@@ -378,7 +379,7 @@ module _ (sig : Sig) (rules : List Rule) (signature : IsSignature sig) (sound : 
         (wf-normal sig signature.ops_in_order made.spliced formed) in
         let w = whole.0 in
         let small : excess (w ∷ []) ≡ None =
-        ap excess (sym whole.1) ∙ (both-None (excess (made.spliced ∷ [])) _ made.step.0).1 in
+        ap excess (sym whole.1) ∙ (neither (excess (made.spliced ∷ [])) _ made.step.0).1 in
         let result : normal sig w ∷ [] ≡ u ∷ [] = ap (map (normal sig)) (sym whole.1) ∙ made.step.1 in
         let same : normal sig w ≡ u = cc in
         let fits = excess-None (w ∷ []) small in

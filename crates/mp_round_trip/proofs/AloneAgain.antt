@@ -8,7 +8,7 @@ use Rattle.mp_term.specs.Tree as term
 use Rattle.mp_term.specs.Names.{is_name}
 use Rattle.mp_term.specs.Signature.{Sig, Kind}
 use Rattle.mp_term.specs.Normal.{normal}
-use Rattle.mp_term.proofs.ListLaws.{all-also, all-map}
+use Rattle.mp_term.proofs.ListLaws.{all-also, all-map, both-empty}
 use Rattle.mp_term.proofs.NormalSize.{depth-normal}
 use Rattle.mp_pattern.specs.declared.limits.TheConstants.{MAX_TERM_NODES, MAX_PATTERN_NODES, MAX_VARIABLES, MAX_DEPTH}
 use Rattle.mp_pattern.specs.PatternTree.{Pattern}
@@ -34,7 +34,7 @@ use Rattle.mp_build.specs.ConditionChecks.{is_large_condition, condition_faults}
 use Rattle.mp_build.specs.Alone.{start, IsTermOf, IsPatternOf}
 use Rattle.mp_build.specs.AloneCondition.{IsCondOf}
 use Rattle.mp_build.proofs.Words.{IsName-is_name, IsInfixSign-is_sign}
-use Rattle.mp_build.proofs.Faultless.{nil-append, nil-both, nil-fault_if, none-fault_if}
+use Rattle.mp_build.proofs.Faultless.{nil-both, nil-fault_if, none-fault_if}
 use Rattle.mp_build.proofs.Clashes.{first_clash-pattern_of}
 use Rattle.mp_build.proofs.FirstToken.{condition-starts}
 use Rattle.mp_build.proofs.SoundConditionLaws.{scoped-cond_of}
@@ -112,7 +112,7 @@ module _ (sig : Sig) (h : IsSpelledSignature sig) where
   pub term-again : (bytes : List ℕ) (t : term.Tree) → IsTermOf sig bytes t → IsTermOf sig (term_text sig t) t
   term-again bytes t b =
       let e = b.syntax_tree in
-      let p = nil-append (fault_if (is_large_term e) _ (start e)) (term_faults sig e) b.faultless in
+      let p = both-empty (fault_if (is_large_term e) _ (start e)) (term_faults sig e) b.faultless in
       let few : nodes e ≤ MAX_TERM_NODES = ltb-false MAX_TERM_NODES (nodes e)
       (or_parts (ltb MAX_TERM_NODES (nodes e)) (has_large_default e)
       (nil-fault_if (is_large_term e) _ (start e) p.0)).0 in
@@ -150,8 +150,8 @@ module _ (sig : Sig) (h : IsSpelledSignature sig) where
   pub pattern-again : (bytes : List ℕ) (p : Pattern) → IsPatternOf sig bytes p → IsPatternOf sig (pattern_text sig p) p
   pattern-again bytes p b =
       let e = b.syntax_tree in
-      let q = nil-append (fault_if (is_large_pattern e) _ (start e)) (whole_pattern_faults sig e) b.faultless in
-      let w = nil-append (loose_faults e) (pattern_faults sig [] e) q.1 in
+      let q = both-empty (fault_if (is_large_pattern e) _ (start e)) (whole_pattern_faults sig e) b.faultless in
+      let w = both-empty (loose_faults e) (pattern_faults sig [] e) q.1 in
       let o = or_parts (ltb MAX_PATTERN_NODES (nodes e))
       (ltb MAX_VARIABLES (length (variable_names e)) || has_large_default e)
       (nil-fault_if (is_large_pattern e) _ (start e) q.0) in
@@ -198,7 +198,7 @@ module _ (sig : Sig) (h : IsSpelledSignature sig) where
     template-again bytes x b =
         let e = b.syntax_tree in
         let vs = use_variables p in
-        let q = nil-append (fault_if (is_large_template e) _ (start e)) (whole_template_faults vs sig e) b.faultless in
+        let q = both-empty (fault_if (is_large_template e) _ (start e)) (whole_template_faults vs sig e) b.faultless in
         let sound = sound-template_of sig vs p (λ y some bound. variable-bound sig p formed y bound)
         (λ y some bound. extent-variable sig p formed y) (λ y some bound one. variable-single sig p formed y one) e
         (expr-names bytes e b.syntax) b.syntax.fits (nil-fault_if (is_large_template e) _ (start e) q.0) q.1 in
@@ -231,7 +231,7 @@ module _ (sig : Sig) (h : IsSpelledSignature sig) where
     readable-cond bytes c b =
         let d = b.syntax_tree.condition in
         let place = b.syntax_tree.start in
-        let p = nil-append (fault_if (is_large_condition d) _ place) (condition_faults sig scope d) b.faultless in
+        let p = both-empty (fault_if (is_large_condition d) _ place) (condition_faults sig scope d) b.faultless in
         let readable : IsReadableCondition sig scope (cond_of sig d) = record {
           sound = scoped-cond_of sig h.signature.ops_in_order scope MAX_OPEN d b.syntax.0.fits
               (condition_bytes-names bytes d b.syntax.0) p.1 (nil-fault_if (is_large_condition d) _ place p.0);

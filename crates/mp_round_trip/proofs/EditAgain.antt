@@ -19,6 +19,8 @@ use Rattle.mp_term.specs.Signature.{Sig}
 use Rattle.mp_term.specs.Normal.{normal}
 use Rattle.mp_term.specs.EditFault.{edit_fault}
 use Rattle.mp_term.proofs.SignatureLaws.{is_some-position}
+use Rattle.mp_term.proofs.NameLaws.{position-distinct}
+use Rattle.mp_term.proofs.ListLaws.{all-get}
 use Rattle.mp_pattern.specs.declared.limits.TheConstants.{MAX_TERM_NODES, MAX_DEPTH, MAX_INDEX, MAX_EDIT_STATEMENTS}
 use Rattle.mp_pattern.specs.SoundRule.{IsSoundTerm}
 use Rattle.mp_parser.specs.declared.limits.TheConstants.{MAX_OPEN}
@@ -50,7 +52,7 @@ use Rattle.mp_text.proofs.Statements.{subject_names-append}
 use Rattle.mp_round_trip.specs.Spelled.{index_piece, term_spellings, position_spelling, replacement_spelling}
 use Rattle.mp_round_trip.specs.Spelled.{edit_spelling}
 use Rattle.mp_round_trip.proofs.Spells.{SpellsTerm}
-use Rattle.mp_round_trip.proofs.SpelledHead.{all-at, HasOps, position-distinct}
+use Rattle.mp_round_trip.proofs.SpelledHead.{HasOps}
 use Rattle.mp_round_trip.proofs.SpelledTerm.{HasNames-term_spelling, Fits-term_spelling}
 use Rattle.mp_round_trip.proofs.SpelledDeclarations.{number-written, name-written}
 use Rattle.mp_round_trip.proofs.TermAgain.{term_of-spells, term_faults-spells, is_large_term-spells}
@@ -178,7 +180,7 @@ module _ (sig : Sig) where
       go : (o : Option Subject) → slice_get ss e.subject ≡ o → AreOn sig e.edits o → is_name (subject_name ss e) ≡ true
       go None k m = absurd m
       go (Some s) k m = ap (λ o. is_name (option_map_or (λ s. s.name) o [])) k
-          ∙ (all-at (IsSoundSubject sig) ss e.subject s all k).name
+          ∙ (all-get (IsSoundSubject sig) ss e.subject s all k).name
 
   -- new terms that are sound
   abbrev AreNewTerms : List term.Tree → Type 0

@@ -13,7 +13,7 @@ use Rattle.mp_term.specs.declared.limits.TheConstants.{MAX_OPS, MAX_KINDS, MAX_S
 use Rattle.mp_term.specs.declared.signature.OpDecl.{OpDecl}
 use Rattle.mp_term.specs.Names.{is_name, are_distinct}
 use Rattle.mp_term.specs.Signature.{Sig, Kind, none_clash, IsSignature}
-use Rattle.mp_term.proofs.ListLaws.{all-append, all-map, all-also}
+use Rattle.mp_term.proofs.ListLaws.{all-append, all-map, all-also, both-empty}
 use Rattle.mp_pattern.specs.Admission.{Rule}
 use Rattle.mp_pattern.specs.TemplateTree.{Template}
 use Rattle.mp_pattern.specs.SoundRule.{IsSymbol, IsVariableOf, HasSoundTemplate, IsSoundRule}
@@ -41,7 +41,7 @@ use Rattle.mp_round_trip.specs.Spelled.{template_spelling, edit_spelling, edit_s
 use Rattle.mp_build.proofs.Declared.{op_decls-append, kind_decls-append}
 use Rattle.mp_text.proofs.FileSteps.{names-rules_of}
 use Rattle.mp_text.proofs.FileSteps.{names-subjects_of, rules_of-append, subjects_of-append}
-use Rattle.mp_build.proofs.Faultless.{nil-append, nil-both}
+use Rattle.mp_build.proofs.Faultless.{nil-both}
 use Rattle.mp_build.proofs.Words.{is_name-IsName, IsName-is_name, is_sign-IsInfixSign}
 use Rattle.mp_round_trip.specs.Readable.{IsSpelledSign, IsSpelledOp, IsSpelledSignature}
 use Rattle.mp_round_trip.proofs.SpelledStatements.{file-again}
@@ -109,7 +109,7 @@ faults_by-append : (rule : List Statement → Statement → List TextFault) (ear
     → faults_by rule earlier a ≡ [] → faults_by rule (earlier ++ a) b ≡ [] → faults_by rule earlier (a ++ b) ≡ []
 faults_by-append rule earlier [] b h k = subst (λ l. faults_by rule l b ≡ []) (append-nil earlier) k
 faults_by-append rule earlier (s ∷ a) b h k =
-    let p = nil-append (rule earlier s) (faults_by rule (earlier ++ s ∷ []) a) h in
+    let p = both-empty (rule earlier s) (faults_by rule (earlier ++ s ∷ []) a) h in
     nil-both (rule earlier s) (faults_by rule (earlier ++ s ∷ []) (a ++ b)) p.0
     (faults_by-append rule (earlier ++ s ∷ []) a b p.1
     (subst (λ l. faults_by rule l b ≡ []) (sym (append_assoc earlier (s ∷ []) a)) k))
@@ -127,8 +127,8 @@ read-file : (ss : List Statement) → StatementsHaveNames ss → AreStatements M
     → IsReadFile (file_tree_of ss)
 read-file ss names fits h =
     let read = all-IsRead ss names fits in
-    let p = nil-append (declaration_faults ss) (faults_by (statement_faults (sig_of ss)) [] ss) h in
-    let q = nil-append (faults_by op_statement_faults [] ss)
+    let p = both-empty (declaration_faults ss) (faults_by (statement_faults (sig_of ss)) [] ss) h in
+    let q = both-empty (faults_by op_statement_faults [] ss)
     (faults_by (kind_statement_faults (op_decls ss)) [] ss) p.0 in
     let ops = AreDeclaredOps-op_decls ss read q.0 in
     let all = all-rules_of (sig_of ss) (λ r. IsShallowIf r.condition) (λ s. Unit {0})

@@ -15,6 +15,7 @@ use Rattle.std.proofs.lemmas.List.{length-map}
 use Rattle.std.proofs.lemmas.List.Sums.{sum_by-cons}
 use Rattle.std.proofs.lemmas.List.Folds.{list_all-append}
 use Rattle.std.proofs.lemmas.Bool.{or_parts}
+use Rattle.std.proofs.Math.Bool.{not-not}
 use Rattle.mp_io.specs.Devices.{Text}
 use Rattle.mp_parser.specs.declared.limits.TheConstants.{MAX_OPEN, MAX_WORD_BYTES}
 use Rattle.mp_pattern.specs.declared.limits.TheConstants.{MAX_NUMBER}
@@ -23,6 +24,7 @@ use Rattle.mp_term.specs.declared.signature.OpDecl.{OpDecl}
 use Rattle.mp_term.specs.Names.{name_set, names_ascend}
 use Rattle.mp_term.specs.Sorting.{insert_sorted, sorted}
 use Rattle.mp_term.specs.Signature.{Kind, has_name, has_sign, shares_sign, clashes, kind_names}
+use Rattle.mp_term.proofs.ListLaws.{both-empty}
 use Rattle.mp_parser.specs.Tokens.{AreWordBytes, is_word_byte}
 use Rattle.mp_syntax.specs.Printed.{unplaced_spot, unplaced_flag, unplaced}
 use Rattle.mp_parser.specs.Syntax.{Spot, Flag, Assoc, Comm, One, Infixed, Statement, OpOf, KindOf, FitsStatement}
@@ -33,11 +35,12 @@ use Rattle.mp_build.specs.Checks.{fault_if, symbol_faults, name_faults, has_bad_
 use Rattle.mp_build.specs.Checks.{kind_faults}
 use Rattle.mp_build.specs.Flags.{says_assoc, says_comm, says_one, says_infix, is_said, some_flag_twice, sign_spot}
 use Rattle.mp_build.specs.Flags.{is_long_sign}
-use Rattle.mp_build.specs.Names.{is_among, number_after, number_of}
+use Rattle.mp_build.specs.Names.{is_among, number_of}
 use Rattle.mp_round_trip.specs.Spelled.{piece, flag_if, sign_flags, op_flags, op_spelling, kind_spelling}
 use Rattle.mp_build.proofs.Declared.{is_among-has_name}
-use Rattle.mp_build.proofs.Faultless.{nil-append, nil-both, none-fault_if}
+use Rattle.mp_build.proofs.Faultless.{nil-both, none-fault_if}
 use Rattle.mp_build.proofs.Words.{first-of, second-of, IsName-is_name}
+use Rattle.mp_build.proofs.Numbers.{number_after-append, is_ascii_digit-digit}
 use Rattle.mp_pattern.specs.SoundRule.{IsSymbol}
 use Rattle.mp_text.proofs.DeclaredParts.{IsSomeSign, short-sign, IsDeclaredOp, IsDeclaredKind}
 use Rattle.mp_round_trip.proofs.TermAgain.{none-symbol}
@@ -51,15 +54,6 @@ pub record Writes (n : ℕ) (digits : List ℕ) : Type 0 where
   pub some : digits ≢ []
   pub word : AreWordBytes digits
 
--- digits in two parts
-number_after-append : (n : ℕ) (front back : List ℕ)
-    → number_after n (front ++ back) ≡ number_after (number_after n front) back
-number_after-append n [] back = refl
-number_after-append n (d ∷ ds) back = number_after-append (10 * n + (d - 48)) ds back
-
-digit-byte : (n : ℕ) → n < 10 → is_ascii_digit (48 + n) ≡ true
-digit-byte n small = search (rules, small)
-
 word-digit : (b : ℕ) → is_ascii_digit b ≡ true → is_word_byte b ≡ true
 word-digit b h = rw h refl
 
@@ -69,7 +63,7 @@ writes-decimal = decimal_by_steps Writes one more
   where
     one : (n : ℕ) → n < 10 → Writes n ((48 + n) ∷ [])
     one n small =
-        let digit = digit-byte n small in
+        let digit = is_ascii_digit-digit n small in
         record {
           value = omega arith;
           are_digits = rw digit refl;
@@ -80,13 +74,13 @@ writes-decimal = decimal_by_steps Writes one more
     more : (n : ℕ) (ds : List ℕ) → 10 ≤ n → Writes (n / 10) ds → Writes n (ds ++ ((48 + n % 10) ∷ []))
     more n ds large w =
         let small : n % 10 < 10 = omega arith in
-        let digit = digit-byte (n % 10) small in
+        let digit = is_ascii_digit-digit (n % 10) small in
         let front = w.value in
         let last : 10 * number_of ds + ((48 + n % 10) - 48) ≡ n = omega arith in
         record {
           value = number_after-append 0 ds ((48 + n % 10) ∷ []) ∙ last;
           are_digits = list_all-append is_ascii_digit ds ((48 + n % 10) ∷ []) ∙ rw (w.are_digits, digit) refl;
-          some = λ e. absurd (let none = (nil-append ds ((48 + n % 10) ∷ []) e).1 in cc);
+          some = λ e. absurd (let none = (both-empty ds ((48 + n % 10) ∷ []) e).1 in cc);
           word = list_all-append is_word_byte ds ((48 + n % 10) ∷ [])
               ∙ rw (w.word, word-digit (48 + n % 10) digit) refl;
         }
@@ -210,10 +204,6 @@ say-alike d flags e =
     subst (Say d)
     (sym (a.1 ∙ ap (λ l. flag_if d.assoc Assoc ++ l)
     (c.1 ∙ ap (λ l. flag_if d.comm Comm ++ l) (o.1 ∙ ap (λ l. flag_if d.one One ++ l) w.1)))) (say-last d w.0 w.2)
-
-not-not : (b : Bool) → not (not b) ≡ b
-not-not true = refl
-not-not false = refl
 
 -- ---- operations
 

@@ -6,14 +6,15 @@ use Rattle.std.specs.Prelude.{slice_get, option_map, position, is_some, unwrap_o
 use Rattle.std.specs.List.{list_all, AllByRecursion}
 use Rattle.std.specs.Option.{option_map_or}
 use Rattle.std.specs.Str.{bytes_eq}
-use Rattle.std.proofs.lemmas.Bool.{leb-true, not-true, or_parts, and_parts}
+use Rattle.std.proofs.lemmas.Bool.{leb-true, not-true, or_parts}
 use Rattle.std.proofs.lemmas.Slice.Eq.{bytes_eq-Decides}
 use Rattle.mp_io.specs.Devices.{Text}
 use Rattle.mp_term.specs.declared.signature.OpDecl.{OpDecl}
 use Rattle.mp_term.specs.Names.{are_distinct}
 use Rattle.mp_term.specs.Signature.{Sig, has_name, is_that_sign, has_sign, shares_sign, clashes, none_clash, kind_names}
-use Rattle.mp_term.proofs.ListLaws.{all-at as list_all-at}
 use Rattle.mp_term.proofs.SignatureLaws.{position-behind, position-first}
+use Rattle.mp_term.proofs.NameLaws.{position-distinct, position-name}
+use Rattle.mp_term.proofs.ListLaws.{all-get}
 use Rattle.mp_pattern.specs.SoundRule.{HoldsOp, HoldsKind}
 use Rattle.mp_print.specs.Printing.{kind_name_text}
 use Rattle.mp_print.specs.PrintedCond.{op_name_text}
@@ -26,13 +27,6 @@ use Rattle.mp_text.proofs.DeclaredParts.{IsSomeSign, HasOpNames}
 use Rattle.mp_build.proofs.Words.{first-of, second-of}
 
 -- ---- items of a list
-
--- what holds of each item holds of the one at an index
-pub all-at : {X : Type 0} (P : X → Type 0) (xs : List X) (i : ℕ) (x : X) → AllByRecursion P xs → slice_get xs i ≡ Some x
-    → P x
-all-at P [] i x all here = cc
-all-at P (y ∷ xs) zero x all here = let same : y ≡ x = cc in subst P same all.0
-all-at P (y ∷ xs) (suc i) x all here = all-at P xs i x all.1 here
 
 -- ---- operations that don't clash
 
@@ -90,44 +84,6 @@ pub record HasOps (sig : Sig) : Type 0 where
   pub kinds_apart : are_distinct (kind_names sig) ≡ true
   pub kinds_named : AllByRecursion IsName (kind_names sig)
 
--- a name is the first of its kind among names that differ
-pub position-distinct : (names : List Text) (i : ℕ) (name : Text) → are_distinct names ≡ true
-    → slice_get names i ≡ Some name → position (bytes_eq name) names ≡ Some i
-position-distinct [] i name h here = cc
-position-distinct (n ∷ names) zero name h here =
-    let same : name ≡ n = cc in
-    position-first (bytes_eq name) n names ((bytes_eq-Decides name n).1 same)
-position-distinct (n ∷ names) (suc i) name h here =
-    let p = and_parts (list_all (λ m. not (bytes_eq m n)) names) (are_distinct names) h in
-    position-behind (bytes_eq name) n names
-    (not-true (bytes_eq name n) (list_all-at (λ m. not (bytes_eq m n)) names i name p.0 here))
-    ∙ ap (option_map (λ k. k + 1)) (position-distinct names i name p.1 here) ∙ ap Some (add-one i)
-
--- the first name that is this one is this one
-pub position-name : (name : Text) (names : List Text) (k : ℕ) → position (bytes_eq name) names ≡ Some k
-    → slice_get names k ≡ Some name
-position-name name [] k h = cc
-position-name name (n ∷ names) k h = by_test (bytes_eq name n) refl (position-name name names)
-  where
-    some_number : (i j : ℕ) → Some i ≡ Some j → i ≡ j
-    some_number i j e = cc
-
-    at : (o : Option ℕ) → position (bytes_eq name) names ≡ o → option_map (λ i. i + 1) o ≡ Some k
-        → ((j : ℕ) → position (bytes_eq name) names ≡ Some j → slice_get names j ≡ Some name)
-        → slice_get (n ∷ names) k ≡ Some name
-    at None e f ih = cc
-    at (Some j) e f ih = subst (λ i. slice_get (n ∷ names) i ≡ Some name) (sym (add-one j) ∙ some_number (j + 1) k f)
-        (ih j e)
-
-    by_test : (b : Bool) → bytes_eq name n ≡ b
-        → ((j : ℕ) → position (bytes_eq name) names ≡ Some j → slice_get names j ≡ Some name)
-        → slice_get (n ∷ names) k ≡ Some name
-    by_test true e ih =
-        let here : 0 ≡ k = some_number 0 k (sym (position-first (bytes_eq name) n names e) ∙ h) in
-        subst (λ i. slice_get (n ∷ names) i ≡ Some name) here (ap Some (sym ((bytes_eq-Decides name n).0 e)))
-    by_test false e ih = at (position (bytes_eq name) names) refl
-        (sym (position-behind (bytes_eq name) n names e) ∙ h) ih
-
 -- the name of a kind that is found by a name
 pub kind_name_text-found : (sig : Sig) (name : Text) (k : ℕ) → kind_number sig name ≡ Some k
     → kind_name_text sig k ≡ name
@@ -146,7 +102,7 @@ held-kind sig h k held = go (slice_get (kind_names sig) k) refl held
     go (Some n) e s =
         let text : kind_name_text sig k ≡ n = ap (λ o. unwrap_or o []) e in
         record {
-          name = subst IsName (sym text) (all-at IsName (kind_names sig) k n h.kinds_named e);
+          name = subst IsName (sym text) (all-get IsName (kind_names sig) k n h.kinds_named e);
           found = ap (kind_number sig) text ∙ position-distinct (kind_names sig) k n h.kinds_apart e;
         }
 
@@ -163,7 +119,7 @@ held-op sig h f held = go (slice_get sig.ops f) refl held
     go (Some d) e s =
         let text : op_name_text sig f ≡ d.name = ap (λ o. option_map_or (λ d. d.name) o []) e in
         record {
-          name = subst IsName (sym text) (all-at HasOpNames sig.ops f d h.named e).name;
+          name = subst IsName (sym text) (all-get HasOpNames sig.ops f d h.named e).name;
           found = ap (op_number sig) text ∙ position-has_name sig.ops f d h.apart e;
         }
 
@@ -205,7 +161,7 @@ module _ (sig : Sig) (h : HasOps sig) (f : ℕ) (d : OpDecl) (here : slice_get s
   -- its names and signs
   pub HasNames-held : (ts : Trees) → HaveNames ts → HasNames (held_spelling (slice_get sig.ops f) ts)
   HasNames-held ts names =
-      let own = all-at HasOpNames sig.ops f d h.named here in
+      let own = all-get HasOpNames sig.ops f d h.named here in
       held_spelling-cases HasNames (slice_get sig.ops f) d ts here (own.name, names)
       (λ sign e some. (subst IsSomeSign e own.sign, names))
 

@@ -35,7 +35,7 @@ use Rattle.mp_search.specs.Reading.{entry_at}
 use Rattle.mp_search.specs.At.{IsAt, HasTrail}
 use Rattle.mp_search.proofs.LevelsLaws.{place-suc}
 
-one_more : (k : ℕ) → suc k ≡ k + 1
+pub one_more : (k : ℕ) → suc k ≡ k + 1
 one_more k = omega arith
 
 -- the pattern is no application, so that it has no children that are to take

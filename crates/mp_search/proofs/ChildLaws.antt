@@ -31,10 +31,7 @@ use Rattle.mp_search.specs.At.{IsAt, AreInOrder, site_of}
 use Rattle.mp_search.proofs.LevelsLaws.{length-table}
 use Rattle.mp_pattern.proofs.NodeLaws.{plan_node}
 use Rattle.mp_search.proofs.PartLaws.{stands-left}
-
-take-front : {X : Type 0} (xs ys : List X) → take (length xs) (xs ++ ys) ≡ xs
-take-front [] ys = refl
-take-front (x ∷ xs) ys = ap (λ zs. x ∷ zs) (take-front xs ys)
+use Rattle.mp_subst.proofs.TrailLaws.{take-behind}
 
 drop-none : {X : Type 0} (k : ℕ) → drop {A = X} k [] ≡ []
 drop-none zero = refl
@@ -104,7 +101,7 @@ module _ (q : Query) (below : List Level) (p : Place) (h : IsQuery q) (at : IsAt
   own = subpatterns child ++ all_subpatterns frame.children
 
   front : own ≡ take (length own) (drop (q.first + length below) (subpatterns q.plan.now.pattern))
-  front = sym (take-front own (frames_nodes outer))
+  front = sym (take-behind own (frames_nodes outer))
       ∙ ap (take (length own))
       (append_assoc (subpatterns child) (all_subpatterns frame.children) (frames_nodes outer) ∙ child-nodes)
 

@@ -26,8 +26,8 @@ use Rattle.mp_search.specs.Site.{lists_drawn, entries_read, entries_drawn}
 use Rattle.mp_search.proofs.DrawnEntries.{mark_left, above-read}
 use Rattle.mp_search.proofs.DrawnLaws.{drawn-ascending}
 use Rattle.mp_search.proofs.DrawnTerms.{terms-same, drawn-terms, drawn-ranks, lists_above-terms}
-use Rattle.mp_search.proofs.ListsAbove.{above-first, in-above, above-onward}
-use Rattle.mp_search.proofs.RankOrder.{rank_total, rank_means}
+use Rattle.mp_term.proofs.ListsAbove.{above-first, in-above, above-onward}
+use Rattle.mp_subst.proofs.RankLists.{rank_same, rank_cmp_total}
 
 -- the first of two lists
 first-left : {X : Type 0} (x : X) (xs ys : List X) → slice_get xs 0 ≡ Some x → slice_get (xs ++ ys) 0 ≡ Some x
@@ -96,18 +96,18 @@ module _ (q : Query) (x : Site) (valid : IsTable q.table.now) (left : HasRanks q
 
   pub first-rest : (own : Level) (l : List Rank) → slice_get (lists_drawn x own) 0 ≡ Some l
       → lists_drawn x own ≡ l ∷ lists_above rank_cmp l (lists_drawn x own)
-  first-rest own l e = above-first (shortlex rank_cmp) (shortlex_total rank_total) l (lists_drawn x own)
-      (drawn-ascending rank_cmp rank_total rank_means own.source own.pool.items.items x.left.now) e
+  first-rest own l e = above-first (shortlex rank_cmp) (shortlex_total rank_cmp_total) l (lists_drawn x own)
+      (drawn-ascending rank_cmp rank_cmp_total rank_same own.source own.pool.items.items x.left.now) e
 
   pub next-in : (own : Level) (l m : List Rank)
       → slice_get (lists_above rank_cmp l (lists_drawn x own)) 0 ≡ Some m → In m (lists_drawn x own)
-  next-in own l m e = in-above (shortlex rank_cmp) (shortlex_total rank_total) l m (lists_drawn x own) e
+  next-in own l m e = in-above (shortlex rank_cmp) (shortlex_total rank_cmp_total) l m (lists_drawn x own) e
 
   pub next-rest : (own : Level) (l m : List Rank)
       → slice_get (lists_above rank_cmp l (lists_drawn x own)) 0 ≡ Some m
       → lists_above rank_cmp l (lists_drawn x own) ≡ m ∷ lists_above rank_cmp m (lists_drawn x own)
-  next-rest own l m e = above-onward (shortlex rank_cmp) (shortlex_total rank_total) l m (lists_drawn x own)
-      (drawn-ascending rank_cmp rank_total rank_means own.source own.pool.items.items x.left.now) e
+  next-rest own l m e = above-onward (shortlex rank_cmp) (shortlex_total rank_cmp_total) l m (lists_drawn x own)
+      (drawn-ascending rank_cmp rank_cmp_total rank_same own.source own.pool.items.items x.left.now) e
 
   -- what is drawn is read list by list
   pub drawn-read : (own : Level) → IsOver q.table.now own

@@ -17,7 +17,7 @@ use Rattle.mp_pattern.specs.Fits.{Entry}
 use Rattle.mp_theory.specs.Items.{above_entry}
 use Rattle.mp_theory.specs.Machine.{entries}
 use Rattle.mp_search.specs.Drawn.{lists_above}
-use Rattle.mp_search.proofs.ListsAbove.{above-head}
+use Rattle.mp_term.proofs.ListsAbove.{above-head}
 
 abbrev entry : List Tree → Bool → Entry
 entry l c = record { terms = l; collapsed = c }

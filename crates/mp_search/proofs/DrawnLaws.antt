@@ -22,9 +22,10 @@ use Rattle.mp_term.proofs.PiecesLaws.{same-itself, same-sound, pieces_among-exac
 use Rattle.mp_term.proofs.PiecesLaws.{in-distinct, from_in-distinct, ascending-distinct}
 use Rattle.mp_search.specs.declared.level.Source.{Source}
 use Rattle.mp_search.specs.declared.level.Source.TheVariants.{Nothing, Front, Bag, Whole}
-use Rattle.mp_search.specs.Drawn.{lengths, above, drawn, lists_above}
+use Rattle.mp_term.specs.Listing.{above}
+use Rattle.mp_search.specs.Drawn.{lengths, drawn, lists_above}
 use Rattle.mp_search.specs.Sublists.{IsNextSublist, IsLastSublist}
-use Rattle.mp_search.proofs.ListsAbove.{above-none, above-least, above-next}
+use Rattle.mp_term.proofs.ListsAbove.{above-none, above-least, above-next}
 use Rattle.mp_search.proofs.Sublists.{Ascends, sub-take, least}
 
 module _ {X : Type 0} (cmp : X → X → Ordering) (o : IsTotalOrder cmp)

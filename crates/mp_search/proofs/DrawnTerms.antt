@@ -23,7 +23,7 @@ use Rattle.mp_search.specs.declared.level.Source.{Source}
 use Rattle.mp_search.specs.declared.level.Source.TheVariants.{Nothing, Front, Bag, Whole}
 use Rattle.mp_search.specs.Drawn.{lengths, drawn, lists_above}
 use Rattle.mp_search.proofs.DrawnLaws.{among-exact, is_end, same_list}
-use Rattle.mp_search.proofs.RankOrder.{rank_total, rank_means}
+use Rattle.mp_subst.proofs.RankLists.{rank_same, rank_cmp_total}
 
 module _ (t : Table) (valid : IsTable t) where
   -- lists of ranks compare as their terms, and each is that of its terms alone
@@ -35,7 +35,7 @@ module _ (t : Table) (valid : IsTable t) where
       ∙ ap (ordering_then (nat_cmp (length a) (length b))) (ranks_cmp t valid.ascending a b h k)
 
   pub terms-same : (a b : List Rank) → HasRanks t a → HasRanks t b → terms_at t a ≡ terms_at t b → a ≡ b
-  terms-same a b h k e = same_list rank_cmp rank_total rank_means a b
+  terms-same a b h k e = same_list rank_cmp rank_cmp_total rank_same a b
       (sym (shortlex-terms a b h k) ∙ ap (shortlex tree_cmp (terms_at t a)) (sym e)
       ∙ tied_itself (shortlex_total tree_cmp_total) (terms_at t a))
 
@@ -90,9 +90,9 @@ module _ (t : Table) (valid : IsTable t) where
   piece-ranks : (b : Bool) (low most : ℕ) (l rs : List Rank) → HasRanks t rs
       → In l (pieces_among rank_cmp b (lengths low most (length rs)) rs) → HasRanks t l
   piece-ranks b low most l rs h i =
-      all-piece rank_cmp rank_total rank_means (HasRank t) l rs
-      (sublist-from_piece rank_cmp rank_total rank_means b l rs
-      ((among-exact rank_cmp rank_total rank_means b low most l rs).0 i).2) h
+      all-piece rank_cmp rank_cmp_total rank_same (HasRank t) l rs
+      (sublist-from_piece rank_cmp rank_cmp_total rank_same b l rs
+      ((among-exact rank_cmp rank_cmp_total rank_same b low most l rs).0 i).2) h
 
   pub drawn-ranks : (s : Source) (pool left : List Rank) → HasRanks t pool → HasRanks t left
       → (l : List Rank) → In l (drawn rank_cmp s pool left) → HasRanks t l
@@ -100,7 +100,7 @@ module _ (t : Table) (valid : IsTable t) where
   drawn-ranks (Front low most) pool left h k l i = piece-ranks false low most l left k i
   drawn-ranks (Bag low most) pool left h k l i = piece-ranks true low most l pool h i
   drawn-ranks (Whole empty whole) pool left h k l i =
-      elim (is_end rank_cmp rank_total rank_means empty whole pool left l i) [
+      elim (is_end rank_cmp rank_cmp_total rank_same empty whole pool left l i) [
         | inl e ↦ subst (HasRanks t) (sym e) tt
         | inr e ↦ subst (HasRanks t) (sym e.1) h
       ]

@@ -3,7 +3,6 @@ use Rattle.std.proofs.Common.{◌≡◌, ℕ, zero, suc, ◌<◌, ◌≤◌, Lis
 use Rattle.std.proofs.Common.{refl, ap}
 use Rattle.std.proofs.Common.{sym, ◌∙◌, inl, inr, subst, arith, get_or, nat_eq, eq-eqb, not, ◌++◌, ◌⊎◌}
 use Rattle.std.specs.Prelude.{Option, Some, None, if◌then◌else◌, min}
-use Rattle.std.specs.List.{AllByRecursion}
 use Rattle.std.specs.declared.cmp.Ordering.TheVariants.{Equal}
 use Rattle.std.proofs.lemmas.Cmp.{tied_itself}
 use Rattle.std.proofs.lemmas.List.{length-map, take-map}
@@ -16,7 +15,7 @@ use Rattle.mp_term.specs.Tree.{Tree, symbol, app, trees}
 use Rattle.mp_term.specs.Pieces.{same, is_piece, is_sublist}
 use Rattle.mp_term.proofs.PiecesLaws.{length-without, sublist-from_piece, same-sound}
 use Rattle.mp_term.proofs.Sorting.{length-sorted}
-use Rattle.mp_pattern.specs.Contribution.{if_several, contribution}
+use Rattle.mp_pattern.specs.Contribution.{contribution}
 use Rattle.mp_pattern.specs.Fits.{arranged}
 use Rattle.mp_pattern.specs.Variables.{comm_above}
 use Rattle.mp_pattern.proofs.SortedLaws.{all-sorted}
@@ -28,8 +27,7 @@ use Rattle.mp_pattern.specs.PatternTree.{Wildcard, dot, kind, plus, star, option
 use Rattle.mp_pattern.specs.PatternTree.{app_pattern, wild_pattern}
 use Rattle.mp_pattern.specs.Value.{Value, one, seq, bag, Subst, one_form}
 use Rattle.mp_pattern.specs.Fits.{Entry}
-use Rattle.mp_subst.specs.Bound.{Bound, value_from}
-use Rattle.mp_subst.specs.Trail.{TrailEntry, last_value}
+use Rattle.mp_subst.specs.Bound.{value_from}
 use Rattle.mp_theory.specs.Frames.{Frame, child}
 use Rattle.mp_theory.specs.Items.{items_by}
 use Rattle.mp_theory.specs.Machine.{reads, choices}
@@ -58,12 +56,6 @@ pub is_piece-terms : (t : Table) → IsTable t → (b : Bool) (rs ss : List Rank
     → is_piece tree_cmp b (terms_at t rs) (terms_at t ss) ≡ is_piece rank_cmp b rs ss
 is_piece-terms t h true rs ss p r = is_sublist-terms t h.ascending rs ss p r
 is_piece-terms t h false rs ss p r = is_prefix-terms t h.ascending rs ss p r
-
--- two terms or more
-pub several-terms : (ts : List Tree) → 2 ≤ length ts → if_several ts ≡ Some ts
-several-terms [] h = absurd (omega (arith, h))
-several-terms (t ∷ []) h = absurd (omega (arith, h))
-several-terms (t ∷ u ∷ ts) h = refl
 
 -- as many of the first terms
 pub first-terms : (t : Table) (n : ℕ) (rs : List Rank)
@@ -229,20 +221,6 @@ module _ (t : Table) (h : IsTable t) where
       let held : rank_of t u ≡ Some r.0 = rank_of-found t u h.ascending r k
       (subst (λ v. tree_cmp (term_at t r) v ≡ Equal) (sym i) (tied_itself tree_cmp_total (term_at t r))) in
       let wrong : Some r.0 ≡ None = sym held ∙ n in cc
-
--- what holds of the values of entries holds of the last one of a variable
-pub last-value : (P : Bound → Type 0) (es : List TrailEntry) (v : ℕ) (b : Bound)
-    → AllByRecursion (λ e. P e.value) es → last_value es v ≡ Some b → P b
-last-value P [] v b h e = cc
-last-value P (d ∷ es) v b h e = elim (last_value es v) as (λ o. last_value es v ≡ o
-    → (elim o as (λ _. Option Bound) [ None ↦ if nat_eq d.var v then Some d.value else None | Some c ↦ Some c ])
-    ≡ Some b → P b) [
-      | None ↦ λ q. elim (nat_eq d.var v) as (λ c. (if c then Some d.value else None) ≡ Some b → P b) [
-        | true ↦ λ k. let i : d.value ≡ b = cc in subst P i h.0
-        | false ↦ λ k. cc
-      ]
-      | Some c ↦ λ q k. last-value P es v b h.1 (q ∙ k)
-    ] refl e
 
 -- a wildcard takes what a dot takes whose variable has the value, or nothing, where that is its default
 known-split : (sig : Sig) (f : Option ℕ) (w : Wildcard) (v : Value) (l ts : List Tree)

@@ -10,14 +10,14 @@ use Rattle.mp_term.proofs.PiecesLaws.{same-itself, same-sound}
 use Rattle.mp_table.specs.Table.{rank_cmp}
 use Rattle.mp_table.specs.declared.rank.Rank.{Rank}
 use Rattle.mp_search.specs.Sublists.{IsFirstAt}
-use Rattle.mp_search.proofs.RankOrder.{rank_total, rank_means}
+use Rattle.mp_subst.proofs.RankLists.{rank_same, rank_cmp_total}
 
 -- ranks of other numbers aren't the same
 pub differ : (x y : Rank) → (x.0 ≡ y.0 → ⊥) → same rank_cmp x y ≡ false
 differ x y h = by_test (same rank_cmp x y) refl
   where
     by_test : (b : Bool) → same rank_cmp x y ≡ b → b ≡ false
-    by_test true e = absurd (h (ap (λ r. r.0) (same-sound rank_cmp rank_total rank_means x y e)))
+    by_test true e = absurd (h (ap (λ r. r.0) (same-sound rank_cmp rank_cmp_total rank_same x y e)))
     by_test false e = refl
 
 -- what stands nowhere is no sublist
@@ -47,7 +47,7 @@ first-at r [] p l e h = absurd (omega (arith, l))
 first-at r (x ∷ xs) zero l e h =
     let i : x ≡ r = ap (λ n. record { 0 = n }) e in
     let hit : same rank_cmp x r ≡ true =
-    subst (λ y. same rank_cmp y r ≡ true) (sym i) (same-itself rank_cmp rank_total rank_means r) in
+    subst (λ y. same rank_cmp y r ≡ true) (sym i) (same-itself rank_cmp rank_cmp_total rank_same r) in
     record {
       within = l;
       there = ap (λ b. if b then true else is_sublist rank_cmp (r ∷ []) xs) hit;

@@ -29,9 +29,7 @@ use Rattle.mp_search.proofs.LevelsLaws.{table-from, table-drop, place-suc, place
 use Rattle.mp_search.proofs.LevelsLaws.{take-less}
 use Rattle.mp_search.proofs.OnwardLaws.{node-suc, node-same, trail-same}
 use Rattle.mp_search.proofs.StandingLaws.{by-bound, standing-suc, complete-suc}
-
-one_more : (k : ℕ) → suc k ≡ k + 1
-one_more k = omega arith
+use Rattle.mp_search.proofs.BindAtLaws.{one_more}
 
 -- the answer of a search, and what it is about
 abbrev pub Told : Bool → List Item → Option Item → Type 0

@@ -9,6 +9,7 @@ use Rattle.std.specs.List.{AllByRecursion}
 use Rattle.std.specs.List.Sorted.{IsStrictlySortedBy}
 use Rattle.std.proofs.lemmas.Cmp.{tied_itself}
 use Rattle.std.proofs.lemmas.List.Elements.{filter-append}
+use Rattle.std.proofs.Math.Bool.{and-false, and-true}
 use Rattle.mp_term.specs.Search.{In}
 use Rattle.mp_term.proofs.ListingLaws.{all_in, irreflexive}
 use Rattle.mp_pattern.specs.Fits.{Entry, Table}
@@ -49,14 +50,6 @@ filter-always p [] h = refl
 filter-always p (x ∷ xs) h = ap (λ b. if b then x ∷ filter p xs else filter p xs) (h x)
     ∙ ap (λ ys. x ∷ ys) (filter-always p xs h)
 
-and-false : (b : Bool) → (b && false) ≡ false
-and-false true = refl
-and-false false = refl
-
-and-true : (b : Bool) → (b && true) ≡ b
-and-true true = refl
-and-true false = refl
-
 filter-flat : {X Y : Type 0} (p : Y → Bool) (f : X → List Y) (xs : List X)
     → filter p (flat_map f xs) ≡ flat_map (λ x. filter p (f x)) xs
 filter-flat p f [] = refl
@@ -87,9 +80,6 @@ first-append (z ∷ zs) ys x h = h
 
 below-Greater : (d e : Entry) → entry_cmp d e ≡ Less → entry_cmp e d ≡ Greater
 below-Greater d e h = entry_cmp_total.antisymm e d ∙ ap ordering_reverse h
-
-entry-same : (d e : Entry) → entry_cmp d e ≡ Equal → d ≡ e
-entry-same d e h = same_entry d e h
 
 -- what holds of entries above one of them
 pub above-all : (d : Entry) (es : List Entry) → AllByRecursion (λ z. entry_cmp d z ≡ Less) es → above_entry d es ≡ es
@@ -195,7 +185,7 @@ module _ (q : Query) where
           | Less ↦ λ p. ap (λ xs. xs ++ wanted q After (e ∷ W) (flat_map f ds)) (wanted-higher e d W (g d) p)
               ∙ ap (λ ys. filter (good q) (f d) ++ ys) rest
               ∙ sym (filter-append (good q) (f d) (flat_map f (above_entry e ds)))
-          | Equal ↦ λ p. absurd (h (inl (entry-same e d p)))
+          | Equal ↦ λ p. absurd (h (inl (same_entry e d p)))
           | Greater ↦ λ p. ap (λ xs. xs ++ wanted q After (e ∷ W) (flat_map f ds)) (wanted-lower e d W (g d) p)
               ∙ rest
         ] refl
@@ -233,7 +223,7 @@ module _ (q : Query) where
         (λ o. entry_cmp e d ≡ o → wanted q At (e ∷ W) (f d) ++ wanted q At (e ∷ W) (flat_map f ds) ≡ []) [
           | Less ↦ λ p. ap (λ xs. xs ++ wanted q At (e ∷ W) (flat_map f ds))
               (wanted-other e d W (g d) Less p (λ o. refl)) ∙ at-none e W ds (λ i. h (inr i))
-          | Equal ↦ λ p. absurd (h (inl (entry-same e d p)))
+          | Equal ↦ λ p. absurd (h (inl (same_entry e d p)))
           | Greater ↦ λ p. ap (λ xs. xs ++ wanted q At (e ∷ W) (flat_map f ds))
               (wanted-other e d W (g d) Greater p (λ o. refl)) ∙ at-none e W ds (λ i. h (inr i))
         ] refl

@@ -25,6 +25,7 @@ use Rattle.mp_search.specs.Frames.{IsBelow, PlaceBelow, place_after}
 use Rattle.mp_search.specs.Reading.{entry_at}
 use Rattle.mp_search.specs.At.{IsAt}
 use Rattle.mp_search.proofs.LevelsLaws.{get-kept, take-again, take-suc_less, length-take_within, place-suc}
+use Rattle.mp_search.proofs.BindAtLaws.{one_more}
 
 module _ (q : Query) (k : ℕ) (xs ys : List Level) (same : take k xs ≡ take k ys) where
   take-kept : (j : ℕ) → j < k → take_at q xs j ≡ take_at q ys j
@@ -95,9 +96,6 @@ outer-more q k ls s h = stack-kept q k (take (suc k) ls) (take k ls) (take-suc_l
 pub frame-front : (q : Query) (k : ℕ) (ls : List Level) (f : Frame) → LeftBelow k f.left
     → frame_of q (take k ls) f ≡ frame_of q ls f
 frame-front q k ls f h = frame-kept q k (take k ls) ls (take-again k ls) f h
-
-one_more : (k : ℕ) → suc k ≡ k + 1
-one_more k = omega arith
 
 -- what is left behind the entry of node k, and the outer frames, with one level more
 pub rest-behind : (q : Query) (k : ℕ) (ls : List Level) (p : Place) (r : Frame) (f : walk.Frame) → k < length ls

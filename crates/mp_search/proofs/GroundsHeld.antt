@@ -2,7 +2,7 @@
 use Rattle.std.proofs.Common.{List, [], ◌∷◌, ◌++◌}
 use Rattle.std.specs.Prelude.{IsSome}
 use Rattle.std.specs.List.{AllByRecursion}
-use Rattle.mp_term.proofs.ListLaws.{all-append}
+use Rattle.mp_term.proofs.ListLaws.{all-append, all-split}
 use Rattle.mp_pattern.specs.Constants.{pattern_constants, all_pattern_constants}
 use Rattle.mp_pattern.specs.PatternTree.{dot, kind, plus, star, optional, counted, Pattern, symbol_pattern, app_pattern}
 use Rattle.mp_pattern.specs.PatternTree.{wild_pattern, Patterns, no_patterns, more_patterns}
@@ -10,12 +10,6 @@ use Rattle.mp_pattern.specs.Subpatterns.{subpatterns, all_subpatterns}
 use Rattle.mp_table.specs.Table.{Table, rank_of}
 use Rattle.mp_search.specs.Grounds.{ground_of}
 use Rattle.mp_search.specs.Query.{HoldsGround}
-
--- what holds of each item of two lists together holds of each item of both
-pub both : {X : Type 0} (P : X → Type 0) (xs ys : List X) → AllByRecursion P (xs ++ ys)
-    → AllByRecursion P xs × AllByRecursion P ys
-both P [] ys h = (tt, h)
-both P (x ∷ xs) ys h = let r = both P xs ys h.1 in ((h.0, r.0), r.1)
 
 module _ (t : Table) where
   mutual
@@ -34,6 +28,6 @@ module _ (t : Table) where
         → AllByRecursion (λ q. HoldsGround t (ground_of q)) (all_subpatterns ps)
     all_grounds-held no_patterns h = tt
     all_grounds-held (more_patterns p ps) h =
-        let r = both (λ u. IsSome (rank_of t u)) (pattern_constants p) (all_pattern_constants ps) h in
+        let r = all-split (λ u. IsSome (rank_of t u)) (pattern_constants p) (all_pattern_constants ps) h in
         all-append (λ q. HoldsGround t (ground_of q)) (subpatterns p) (all_subpatterns ps) (grounds-held p r.0)
         (all_grounds-held ps r.1)

@@ -3,7 +3,7 @@ use Rattle.std.proofs.Common.{◌≡◌, ℕ, zero, suc, ◌<◌, ◌≤◌, Lis
 use Rattle.std.proofs.Common.{refl, ap, sym, ◌∙◌, subst, get_or, nat_eq, eqb-true, ltb, arith}
 use Rattle.std.proofs.Common.{eq-eqb}
 use Rattle.std.specs.Prelude.{Option, Some, None, option_map, ◌||◌, if◌then◌else◌}
-use Rattle.std.proofs.lemmas.Bool.{and_parts}
+use Rattle.std.proofs.lemmas.Bool.{and_parts, false_from_ne_true}
 use Rattle.std.specs.List.{AllWithin}
 use Rattle.std.specs.List.Sorted.{IsNonDecreasingBy}
 use Rattle.std.specs.Ordering.{ordering_then, nat_cmp}
@@ -161,12 +161,8 @@ before-earlier t h k past rs held up i j d l m b =
 pub behind-later : (t : Table) → IsTable t → (k : Group) (past : Bool) (rs : List Rank) → HasRanks t rs
     → IsNonDecreasingBy (λ r. r.0) rs → (i j : ℕ) (d : Rank) → i ≤ j → j < length rs
     → precedes t k past (term_at t (get_or rs i d)) ≡ false → precedes t k past (term_at t (get_or rs j d)) ≡ false
-behind-later t h k past rs held up i j d l m b = not_before (precedes t k past (term_at t (get_or rs j d)))
+behind-later t h k past rs held up i j d l m b = false_from_ne_true (precedes t k past (term_at t (get_or rs j d)))
     (λ e. let wrong : true ≡ false = sym (before-earlier t h k past rs held up i j d l m e) ∙ b in cc)
-  where
-    not_before : (c : Bool) → (c ≡ true → ⊥) → c ≡ false
-    not_before true g = absurd (g refl)
-    not_before false g = refl
 
 -- what comes before the group also comes before what is behind it
 first-past : (u : Tree) (ts : List Tree) → first_before false u ts ≡ true → first_before true u ts ≡ true

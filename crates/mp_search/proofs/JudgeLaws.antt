@@ -29,14 +29,15 @@ use Rattle.mp_cond.specs.Verdict.{AreHeld, same_form, is_in_form, is_settled, ar
 use Rattle.mp_cond.specs.Extension.{Extends}
 use Rattle.mp_cond.specs.declared.verdict.Verdict.{Verdict}
 use Rattle.mp_cond.specs.declared.verdict.Verdict.TheVariants.{Yes, No, Later}
+use Rattle.mp_cond.proofs.CompleteLaws.{same_form-itself}
 use Rattle.mp_theory.specs.Kept.{Keeps}
 use Rattle.mp_theory.proofs.KeptValues.{kept-merge, conditions-early}
 use Rattle.mp_term.specs.Search.{In}
 use Rattle.mp_term.proofs.ListingLaws.{all_in}
+use Rattle.mp_term.proofs.ListLaws.{all-get}
 use Rattle.mp_theory.specs.Frames.{Next}
 use Rattle.mp_theory.specs.Items.{items}
 use Rattle.std.specs.Prelude.{filter}
-use Rattle.mp_subst.proofs.TrailLaws.{all-get}
 use Rattle.mp_search.specs.declared.query.Query.{Query}
 use Rattle.mp_search.specs.Query.{IsQuery}
 use Rattle.mp_search.specs.Reading.{name_at, subst_of}
@@ -52,11 +53,6 @@ form-from t one_form None rs = refl
 form-from t one_form (Some g) rs = refl
 form-from t seq_form w rs = refl
 form-from t bag_form w rs = refl
-
-same_form-itself : (f : Form) → same_form f f ≡ true
-same_form-itself one_form = refl
-same_form-itself seq_form = refl
-same_form-itself bag_form = refl
 
 -- a known name is that of a variable
 known-variable : (xs : List Variable) (x : List ℕ) → is_known same_name (map (λ v. v.name) xs) x ≡ true

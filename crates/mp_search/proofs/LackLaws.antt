@@ -25,6 +25,7 @@ use Rattle.mp_theory.proofs.KeptValues.{item-by, solve-keeps}
 use Rattle.mp_theory.proofs.Matching.{may_match-earlier}
 use Rattle.mp_theory.proofs.SupplyLaws.{supply-behind, passing-without}
 use Rattle.mp_theory.proofs.Walk.{choices-exact}
+use Rattle.mp_theory.proofs.NextTerm.{none-in}
 use Rattle.mp_search.specs.Lacking.{AreLacking, each_takes_one, some_may_match}
 
 module _ (sig : Sig) (s : Subst) (f : Option ℕ) where
@@ -60,11 +61,6 @@ module _ (sig : Sig) (s : Subst) (f : Option ℕ) where
       either : (b : Bool) {c : Bool} → c ≡ true → (b || c) ≡ true
       either true k = refl
       either false k = k
-
--- nothing is in a list that has no member
-pub none-in : {X : Type 0} (xs : List X) → ((x : X) → In x xs → ⊥) → xs ≡ []
-none-in [] h = refl
-none-in (x ∷ xs) h = absurd (h x (inl refl))
 
 -- where children are lacking, nothing is behind the entry
 pub nothing-lacking : (sig : Sig) (k : ℕ) (p : Pattern) (f : Frame) (fs : List Frame) (e : Entry) (s : Subst)

@@ -2,7 +2,6 @@ pub mod SiteLaws
 pub mod GroundLaws
 pub mod GroundsHeld
 pub mod ReadsLaws
-pub mod ListsAbove
 pub mod Sublists
 pub mod DrawnLaws
 pub mod RankOrder

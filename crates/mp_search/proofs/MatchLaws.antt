@@ -5,14 +5,13 @@ use Rattle.std.proofs.lemmas.Bool.{and_parts}
 use Rattle.mp_term.specs.NormalTest.{has_head}
 use Rattle.std.specs.Option.{unwrap_or}
 use Rattle.std.specs.Ordering.{is_eq}
-use Rattle.std.specs.declared.cmp.Ordering.{Ordering}
-use Rattle.std.specs.declared.cmp.Ordering.TheVariants.{Less, Equal, Greater}
 use Rattle.mp_term.specs.Tree.{Tree, symbol, app, trees}
 use Rattle.mp_term.specs.Order.{tree_cmp}
 use Rattle.mp_term.specs.OrderLaws.{tree_cmp_total, tree_same, nat_same}
 use Rattle.mp_term.specs.Pieces.{same}
 use Rattle.mp_term.proofs.PiecesLaws.{same-sound, same-itself}
 use Rattle.mp_term.specs.Signature.{Sig}
+use Rattle.mp_term.proofs.TestLaws.{equal-from}
 use Rattle.mp_pattern.specs.Contribution.{contribution, if_several}
 use Rattle.mp_pattern.specs.PatternTree.{dot, kind, plus, star, counted, optional, Pattern, symbol_pattern, app_pattern}
 use Rattle.mp_pattern.specs.PatternTree.{Wildcard, wild_pattern, Patterns, more_patterns}
@@ -48,17 +47,12 @@ alone-contribution sig f u v e =
           (subst (λ o. is_alone_in (unwrap_or o []) v ≡ true) (contribution-opened sig f u a) e))
     ] refl
 
-equal-is : (o : Ordering) → is_eq o ≡ true → o ≡ Equal
-equal-is Less e = cc
-equal-is Equal e = refl
-equal-is Greater e = cc
-
 module _ (t : Table) (h : IsTable t) where
   -- ranks of one term are one
   pub rank-same : (r s : Rank) → HasRank t r → HasRank t s → same tree_cmp (term_at t r) (term_at t s) ≡ true
       → r.0 ≡ s.0
   rank-same r s k l e =
-      nat_same r.0 s.0 (equal-is (rank_cmp r s) (ap is_eq (sym (rank_order t h.ascending r s k l)) ∙ e))
+      nat_same r.0 s.0 (equal-from (rank_cmp r s) (ap is_eq (sym (rank_order t h.ascending r s k l)) ∙ e))
 
   -- what a bound contributes is the term of one rank alone
   pub value-alone : (sig : Sig) (f : Option ℕ) (m : Form) (w : Option ℕ) (rs : List Rank) (r : Rank) → HasRanks t rs
@@ -74,7 +68,7 @@ module _ (t : Table) (h : IsTable t) where
       let i : u ≡ term_at t r = same-sound tree_cmp tree_cmp_total tree_same u (term_at t r)
       (alone-contribution sig f u (term_at t r) e) in
       let j : rank_of t (term_at t r) ≡ Some r.0 = rank_of-found t (term_at t r) h.ascending r l
-      (equal-is _ (same-itself tree_cmp tree_cmp_total tree_same (term_at t r))) in
+      (equal-from _ (same-itself tree_cmp tree_cmp_total tree_same (term_at t r))) in
       let wrong : None ≡ Some r.0 = sym n ∙ ap (rank_of t) i ∙ j in
       cc
   value-alone sig f seq_form None [] r k a n l e = cc

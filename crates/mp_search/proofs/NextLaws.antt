@@ -23,6 +23,7 @@ use Rattle.mp_theory.specs.Frames.{Frame, Next, child}
 use Rattle.mp_theory.specs.Items.{items, behind}
 use Rattle.mp_theory.specs.OneList.{Item}
 use Rattle.mp_subst.specs.Trail.{Trail, GoesWith, cut}
+use Rattle.mp_subst.proofs.RankLists.{rank_same, rank_cmp_total}
 use Rattle.mp_theory.specs.Machine.{reads, choices, entered, onward, said}
 use Rattle.mp_theory.specs.Narrow.{load}
 use Rattle.mp_theory.specs.Solve.{solve}
@@ -49,7 +50,6 @@ use Rattle.mp_search.specs.Wanted.{wanted, good, IsStanding}
 use Rattle.mp_search.proofs.BindAtLaws.{less-childless, leaf-childless, childless-trail, childless-spare}
 use Rattle.mp_search.proofs.FoundLaws.{wanted-first}
 use Rattle.mp_search.proofs.PartLaws.{first-others}
-use Rattle.mp_search.proofs.RankOrder.{rank_total, rank_means}
 use Rattle.mp_search.proofs.OnwardLaws.{node-kept, at-kept, trail-kept}
 use Rattle.mp_search.proofs.VisitLaws.{begins, at-other, items-kept}
 
@@ -212,7 +212,7 @@ without-first [] n = absurd (omega (arith, n))
 without-first (r ∷ xs) n =
     let whole = first-others (r ∷ xs) r n in
     let others : xs ≡ take (length (r ∷ xs) - 1) (drop 1 (r ∷ xs)) = cc in
-    rw (same-itself rank_cmp rank_total rank_means r) others
+    rw (same-itself rank_cmp rank_cmp_total rank_same r) others
 
 -- where none is left there is none
 pub none-left : (q : Query) (x : Site) → TakesNext q.sig.now (above x.under) (pattern_tree x.child.now)

@@ -7,6 +7,7 @@ use Rattle.std.proofs.Math.Bool.{or-true}
 use Rattle.mp_term.specs.Listing.{In}
 use Rattle.mp_term.proofs.SearchLaws.{from_in-append}
 use Rattle.mp_term.proofs.SignatureLaws.{position-first, position-behind}
+use Rattle.mp_term.proofs.ListLaws.{all-get}
 use Rattle.mp_pattern.specs.PatternTree.{Wildcard, Pattern, symbol_pattern, app_pattern, wild_pattern, Patterns}
 use Rattle.mp_pattern.specs.PatternTree.{no_patterns}
 use Rattle.mp_pattern.specs.PatternTree.{more_patterns}
@@ -17,7 +18,6 @@ use Rattle.mp_pattern.specs.Variables.{Use, uses, all_uses, variables}
 use Rattle.mp_pattern.specs.Plan.{Variable}
 use Rattle.mp_pattern.proofs.NameLaws.{same_name-is, same_name-itself}
 use Rattle.mp_theory.proofs.FirstsLaws.{Distinct, distinct-firsts}
-use Rattle.mp_subst.proofs.TrailLaws.{all-get}
 use Rattle.mp_search.specs.Reading.{name_among}
 
 -- an item at a place is one of the list

@@ -5,7 +5,7 @@ use Rattle.std.specs.Prelude.{filter, ◌&&◌, ◌||◌, not, Option, Some, Non
 use Rattle.std.specs.Cmp.{IsTotalOrder}
 use Rattle.std.specs.Ordering.{is_lt}
 use Rattle.std.specs.declared.cmp.Ordering.TheVariants.{Equal}
-use Rattle.std.proofs.lemmas.Bool.{and_parts}
+use Rattle.std.proofs.lemmas.Bool.{and_parts, and_right}
 use Rattle.std.proofs.lemmas.Cmp.{lists_total, tied_itself}
 use Rattle.mp_term.specs.NormalTest.{has_head, is_single}
 use Rattle.mp_term.specs.Order.{tree_cmp}
@@ -383,10 +383,6 @@ module _ (sig : Sig) where
 total : IsTotalOrder table_cmp
 total = lists_total entry_cmp_total
 
-and-false : (a b : Bool) → b ≡ false → (a && b) ≡ false
-and-false true b h = h
-and-false false b h = refl
-
 -- after the table of one of them comes none then
 pub none-after : (q : Query) (m : Mode) (W : Table) (is : List Item) → m ≡ After → IsStanding m W is
     → HaveOneTable is → wanted q m W is ≡ []
@@ -396,7 +392,7 @@ none-after q After W is e h one =
     let a = from_in-map (λ i. i.0) W is h in
     filter-none (λ i. good q i && is_lt (table_cmp W i.0)) is (λ i m.
     let same : W ≡ i.0 = a.1 ∙ one a.0 i a.2 m in
-    and-false (good q i) (is_lt (table_cmp W i.0))
+    and_right (good q i) (is_lt (table_cmp W i.0))
     (ap is_lt (subst (λ T. table_cmp W T ≡ Equal) same (tied_itself total W))))
 
 -- what is left out of a list isn't in what is found of it

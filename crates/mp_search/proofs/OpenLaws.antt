@@ -1,38 +1,33 @@
 -- What is left to a child ascends under a commutative operation.
-use Rattle.std.proofs.Common.{◌≡◌, zero, suc, ◌+◌, List, [], ◌∷◌, Bool, true, false, ap}
+use Rattle.std.proofs.Common.{◌≡◌, zero, suc, ◌+◌, List, [], ◌∷◌, Bool, true, false}
 use Rattle.std.proofs.Common.{sym, ◌∙◌, subst, arith, get_or}
 use Rattle.std.specs.Prelude.{if◌then◌else◌}
-use Rattle.std.specs.Ordering.{is_lt, is_gt, ordering_reverse}
+use Rattle.std.specs.Ordering.{is_lt}
 use Rattle.std.specs.declared.cmp.Ordering.{Ordering}
-use Rattle.std.specs.declared.cmp.Ordering.TheVariants.{Less, Equal, Greater}
 use Rattle.std.specs.Cmp.{IsTotalOrder}
 use Rattle.std.specs.List.Sorted.{IsSorted}
 use Rattle.mp_term.specs.Order.{tree_cmp}
 use Rattle.mp_term.specs.Sorting.{sorted}
 use Rattle.mp_term.specs.Tree.{Tree}
 use Rattle.mp_term.proofs.Sorting.{Ascends, ascends-sorted}
+use Rattle.mp_term.proofs.TestLaws.{not_less-flipped}
 use Rattle.mp_pattern.specs.Variables.{comm_above}
 use Rattle.mp_pattern.proofs.SortedLaws.{all-sorted}
 use Rattle.mp_table.specs.Table.{terms_at, HasRank, rank_cmp}
 use Rattle.mp_subst.proofs.BoundLaws.{sorted-terms, ranks_same}
+use Rattle.mp_subst.proofs.RankLists.{rank_cmp_total}
 use Rattle.mp_search.specs.declared.query.Query.{Query}
 use Rattle.mp_search.specs.declared.site.Site.{Site}
 use Rattle.mp_search.specs.Frames.{above}
 use Rattle.mp_search.specs.Query.{IsQuery}
 use Rattle.mp_search.specs.Site.{IsSite}
-use Rattle.mp_search.proofs.RankOrder.{rank_total}
 
 -- a list that ascends is sorted
 pub sorted-ascends : {X : Type 0} (cmp : X → X → Ordering) → IsTotalOrder cmp → (xs : List X) → Ascends cmp xs
     → IsSorted cmp xs
 sorted-ascends cmp o [] h k d _ l = absurd (omega (arith, l))
 sorted-ascends cmp o (x ∷ []) h k d _ l = absurd (omega (arith, l))
-sorted-ascends cmp o (x ∷ y ∷ xs) h zero d _ l = not_less (cmp x y) (cmp y x) (o.antisymm y x) h.0.0
-  where
-    not_less : (a b : Ordering) → b ≡ ordering_reverse a → is_gt a ≡ false → is_lt b ≡ false
-    not_less Less b e g = ap is_lt e
-    not_less Equal b e g = ap is_lt e
-    not_less Greater b e g = cc
+sorted-ascends cmp o (x ∷ y ∷ xs) h zero d _ l = not_less-flipped (cmp x y) (cmp y x) (o.antisymm y x) h.0.0
 sorted-ascends cmp o (x ∷ y ∷ xs) h (suc k) d _ l =
     let e : suc (k + 1) ≡ suc k + 1 = omega arith in
     subst (λ n. is_lt (cmp (get_or (x ∷ y ∷ xs) n d) (get_or (y ∷ xs) k d)) ≡ false) e
@@ -55,5 +50,5 @@ module _ (q : Query) (x : Site) (h : IsQuery q) (k : IsSite q x) where
       ∙ subst (λ b. (if b then sorted tree_cmp left else left) ≡ left) c k.arranged in
       let same : sorted rank_cmp rs ≡ rs =
       ranks_same t h.table (sorted rank_cmp rs) rs (all-sorted (HasRank t) rank_cmp rs k.left) k.left terms in
-      sorted-ascends rank_cmp rank_total rs
-      (subst (Ascends rank_cmp) same (ascends-sorted rank_cmp rank_total rs))
+      sorted-ascends rank_cmp rank_cmp_total rs
+      (subst (Ascends rank_cmp) same (ascends-sorted rank_cmp rank_cmp_total rs))

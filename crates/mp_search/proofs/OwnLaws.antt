@@ -29,7 +29,7 @@ use Rattle.mp_search.specs.Site.{entries_drawn}
 use Rattle.mp_search.specs.At.{HasPool, draws_at, own_at, drawn_at, entries_from, site_of}
 use Rattle.mp_search.proofs.DrawnLaws.{drawn-ascending}
 use Rattle.mp_search.proofs.LevelsLaws.{entry-own}
-use Rattle.mp_search.proofs.RankOrder.{rank_total, rank_means}
+use Rattle.mp_subst.proofs.RankLists.{rank_same, rank_cmp_total}
 
 -- the levels in two parts, of which the second begins with the level of node k
 get-part : {X : Type 0} (B F : List X) (k : ℕ) (d : X) → length B ≡ k → k < length (B ++ F)
@@ -156,7 +156,7 @@ level-own t w (x ∷ ls) (suc k) l a h = level-own t w ls k l a.1 h
 
 -- what is left when ranks are taken out is in the table, and stands for what is left of their terms
 pub ranks-without : (t : Table) (rs ss : List Rank) → HasRanks t ss → HasRanks t (without rank_cmp rs ss)
-ranks-without t rs ss h = all-without rank_cmp rank_total rank_means (HasRank t) rs ss h
+ranks-without t rs ss h = all-without rank_cmp rank_cmp_total rank_same (HasRank t) rs ss h
 
 -- what the node of a level takes is what the level reads
 pub entry-read : (t : Table) (ls : List Level) (k : ℕ) (d : Level) → k < length ls

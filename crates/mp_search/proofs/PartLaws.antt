@@ -17,6 +17,7 @@ use Rattle.mp_search.specs.Query.{IsQuery}
 use Rattle.mp_search.specs.Site.{IsSite}
 use Rattle.mp_pattern.proofs.NodeLaws.{plan_node}
 use Rattle.mp_search.proofs.SiteLaws.{front_at, rest_of, subpatterns-first}
+use Rattle.mp_subst.proofs.TrailLaws.{take-whole}
 
 -- the first and the last part of a front
 front-left : {X : Type 0} (xs ys zs : List X) → xs ++ ys ≡ take (length (xs ++ ys)) zs → xs ≡ take (length xs) zs
@@ -27,14 +28,14 @@ front-left (x ∷ xs) ys (z ∷ zs) e =
     let j : xs ++ ys ≡ take (length (xs ++ ys)) zs = cc in
     ap (λ y. y ∷ xs) i ∙ ap (λ us. z ∷ us) (front-left xs ys zs j)
 
-front-right : {X : Type 0} (xs ys zs : List X) → xs ++ ys ≡ take (length (xs ++ ys)) zs
+pub front-right : {X : Type 0} (xs ys zs : List X) → xs ++ ys ≡ take (length (xs ++ ys)) zs
     → ys ≡ take (length ys) (drop (length xs) zs)
 front-right [] ys zs e = e
 front-right (x ∷ xs) ys [] e = cc
 front-right (x ∷ xs) ys (z ∷ zs) e =
     let j : xs ++ ys ≡ take (length (xs ++ ys)) zs = cc in front-right xs ys zs j
 
-drop-further : {X : Type 0} (n k : ℕ) (zs : List X) → drop n (drop k zs) ≡ drop (k + n) zs
+pub drop-further : {X : Type 0} (n k : ℕ) (zs : List X) → drop n (drop k zs) ≡ drop (k + n) zs
 drop-further n zero zs = let e : n ≡ 0 + n = omega arith in ap (λ m. drop m zs) e
 drop-further zero (suc k) [] = let e : suc k ≡ suc k + 0 = omega arith in ap (λ m. drop m []) e
 drop-further (suc n) (suc k) [] = let e : suc k + suc n ≡ suc (k + suc n) = omega arith in rw e refl
@@ -96,18 +97,13 @@ module _ (q : Query) where
   stands-below k m g ps p e n s = subst (λ i. StandsAt q i (all_subpatterns ps)) (sym n)
       (stands-children k g ps (subst (λ r. StandsAt q k (subpatterns r)) e s))
 
--- all of a list but its first item
-whole : {X : Type 0} (xs : List X) → take (length xs) xs ≡ xs
-whole [] = refl
-whole (x ∷ xs) = ap (λ ys. x ∷ ys) (whole xs)
-
 -- a list by its first item and the others
 pub first-others : {X : Type 0} (xs : List X) (x : X) → 1 ≤ length xs
     → xs ≡ slice_index_or xs 0 x ∷ take (length xs - 1) (drop 1 xs)
 first-others [] x l = absurd (omega (arith, l))
 first-others (y ∷ ys) x l =
     let e : suc (length ys) - 1 ≡ length ys = omega arith in
-    ap (λ zs. y ∷ zs) (sym (ap (λ n. take n ys) e ∙ whole ys))
+    ap (λ zs. y ∷ zs) (sym (ap (λ n. take n ys) e ∙ take-whole ys))
 
 pub first-item : {X : Type 0} (xs : List X) (x : X) → 1 ≤ length xs → x ≡ slice_index_or xs 0 x
     → xs ≡ x ∷ take (length xs - 1) (drop 1 xs)

@@ -1,6 +1,6 @@
 -- Siblings with one variable as their second argument.
 use Rattle.std.proofs.Common.{◌≡◌, ℕ, zero, suc, ◌-◌, ◌<◌, ◌≤◌, List, [], ◌∷◌, length, take, drop, true, false, refl}
-use Rattle.std.proofs.Common.{map, ap, sym, ◌∙◌, ◌⊎◌, subst, arith, inl, inr, slice_index_or}
+use Rattle.std.proofs.Common.{map, ap, sym, ◌∙◌, subst, arith, inl, inr, slice_index_or}
 use Rattle.std.specs.Prelude.{Bool, IfSome, Option, None, Some, option_map, filter, if◌then◌else◌}
 use Rattle.std.proofs.lemmas.Bool.{and_parts}
 use Rattle.mp_term.specs.Order.{tree_cmp}
@@ -10,6 +10,7 @@ use Rattle.mp_term.proofs.PiecesLaws.{same-sound, same-itself, sublist-from_piec
 use Rattle.mp_term.specs.Search.{In}
 use Rattle.mp_term.specs.Signature.{Sig}
 use Rattle.mp_term.specs.Tree.{Tree}
+use Rattle.mp_term.proofs.TestLaws.{below_or_not}
 use Rattle.mp_pattern.specs.Fits.{Entry}
 use Rattle.mp_pattern.specs.PatternTree.{Pattern, Patterns, app_pattern, dot, more_patterns, no_patterns, patterns}
 use Rattle.mp_pattern.specs.PatternTree.{symbol_pattern, wild_pattern}
@@ -237,9 +238,9 @@ module _ (q : Query) (x : Site) (s : Subst) (r : Pattern) (others : Patterns)
       let now = may_match-earlier sig f r (term_at q.table.now o.0) s S again.0 o.4 in
       let place_is = ap (λ (k : Rank). k.0) o.3 in
       let from : i ≤ o.1 =
-      elim (below o.1 i) [ inl a ↦ absurd (between.before o.0 o.1 now a place_is) | inr a ↦ a ] in
+      elim (below_or_not o.1 i) [ inl a ↦ absurd (between.before o.0 o.1 now a place_is) | inr a ↦ a ] in
       let to : o.1 < n =
-      elim (below o.1 n) [ inl a ↦ a | inr a ↦ absurd (between.behind o.0 o.1 now a o.2 place_is) ] in (
+      elim (below_or_not o.1 n) [ inl a ↦ a | inr a ↦ absurd (between.behind o.0 o.1 now a o.2 place_is) ] in (
         o.0,
         in-slice i n o.1 x.left.now o.0 from to o.2 o.3,
         record {
@@ -248,9 +249,6 @@ module _ (q : Query) (x : Site) (s : Subst) (r : Pattern) (others : Patterns)
           other = one-second S u.0 v.0 (term_at q.table.now o.0) u.1 known o.4;
         },
       )
-    where
-      below : (m k : ℕ) → (m < k) ⊎ (k ≤ m)
-      below m k = grind arith
 
 -- a dot with a variable is one of that number
 pub dot-number : (q : Query) (p : Pattern) (o : Option ℕ) (y : Option (List ℕ)) → p ≡ wild_pattern dot y

@@ -9,7 +9,7 @@ use Rattle.mp_term.proofs.PiecesLaws.{same-itself}
 use Rattle.mp_term.proofs.ListLaws.{bool_same}
 use Rattle.mp_table.specs.Table.{rank_cmp}
 use Rattle.mp_table.specs.declared.rank.Rank.{Rank}
-use Rattle.mp_search.proofs.RankOrder.{rank_total, rank_means}
+use Rattle.mp_subst.proofs.RankLists.{rank_same, rank_cmp_total}
 
 -- at the end of the list the items stand in it where all of them were found
 pub is_sublist-end : {X : Type 0} (cmp : X → X → Ordering) (k : ℕ) (es : List X) (i : ℕ) (xs : List X) → k ≤ length es
@@ -49,4 +49,4 @@ without-prefix cmp (e ∷ l) (t ∷ ts) h =
 -- a list is a sublist of itself
 pub itself-sublist : (rs : List Rank) → is_sublist rank_cmp rs rs ≡ true
 itself-sublist [] = refl
-itself-sublist (r ∷ rs) = rw (same-itself rank_cmp rank_total rank_means r) (itself-sublist rs)
+itself-sublist (r ∷ rs) = rw (same-itself rank_cmp rank_cmp_total rank_same r) (itself-sublist rs)

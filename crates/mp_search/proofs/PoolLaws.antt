@@ -3,7 +3,6 @@ use Rattle.std.proofs.Common.{◌≡◌, ℕ, zero, suc, ◌+◌, ◌*◌, ◌<�
 use Rattle.std.proofs.Common.{ap, sym, map}
 use Rattle.std.proofs.Common.{◌∙◌, subst, arith, nat_eq, eq-eqb, eqb-true, mul-suc}
 use Rattle.std.specs.Prelude.{Option, Some, None}
-use Rattle.std.specs.declared.cmp.Ordering.{Ordering}
 use Rattle.std.proofs.lemmas.Cmp.{tied_itself}
 use Rattle.mp_term.proofs.PiecesLaws.{same-sound}
 use Rattle.mp_pattern.specs.PatternTree.{Pattern, symbol_pattern, app_pattern, wild_pattern, patterns}
@@ -26,6 +25,7 @@ use Rattle.mp_term.specs.Pieces.{same, is_piece, is_sublist}
 use Rattle.mp_term.proofs.ListLaws.{bool_same}
 use Rattle.mp_term.proofs.PiecesLaws.{length-without, sublist-from_piece}
 use Rattle.mp_term.proofs.Sorting.{Ascends, ascends-sorted, hit}
+use Rattle.mp_term.proofs.TestLaws.{equal-from}
 use Rattle.mp_pattern.specs.View.{pattern_tree}
 use Rattle.mp_pattern.specs.Value.{Value, Subst}
 use Rattle.mp_pattern.specs.Variables.{comm_above}
@@ -35,6 +35,7 @@ use Rattle.mp_table.specs.Table.{Table, IsTable, HasRank, HasRanks, term_at, ter
 use Rattle.mp_table.specs.declared.rank.Rank.{Rank}
 use Rattle.mp_table.proofs.RankLaws.{rank_order, is_sublist-terms}
 use Rattle.mp_subst.proofs.BoundLaws.{sorted-terms, ranks_same}
+use Rattle.mp_subst.proofs.RankLists.{rank_same, rank_cmp_total}
 use Rattle.mp_theory.specs.Frames.{Frame}
 use Rattle.mp_theory.specs.Items.{items_by}
 use Rattle.mp_theory.specs.Machine.{choices}
@@ -56,21 +57,15 @@ use Rattle.mp_search.proofs.DrawnLaws.{among-exact}
 use Rattle.mp_search.proofs.LackLaws.{lacking-before}
 use Rattle.mp_search.proofs.MadeLaws.{Draws}
 use Rattle.mp_search.proofs.OpenLaws.{sorted-ascends}
-use Rattle.mp_search.proofs.RankOrder.{rank_total, rank_means}
 
 module _ (t : Table) (h : IsTable t) where
   -- a term stands among terms as often as its rank among theirs
   hit-rank : (r s : Rank) → HasRank t r → HasRank t s → hit tree_cmp (term_at t r) (term_at t s) ≡ is_at r s
   hit-rank r s p k = ap (λ o. if is_eq o then 1 else 0) (rank_order t h.ascending r s p k)
       ∙ ap (λ b. if b then 1 else 0) (bool_same (is_eq (rank_cmp r s)) (nat_eq r.0 s.0)
-      (λ e. eq-eqb r.0 s.0 (ap (λ o. o.0) (rank_means r s (equal (rank_cmp r s) e))))
+      (λ e. eq-eqb r.0 s.0 (ap (λ o. o.0) (rank_same r s (equal-from (rank_cmp r s) e))))
       (λ e. let i : r ≡ s = ap (λ n. record { 0 = n }) (eqb-true r.0 s.0 e) in
-      subst (λ z. is_eq (rank_cmp r z) ≡ true) i (ap is_eq (tied_itself rank_total r))))
-    where
-      equal : (o : Ordering) → is_eq o ≡ true → o ≡ Equal
-      equal Less e = cc
-      equal Equal e = refl
-      equal Greater e = cc
+      subst (λ z. is_eq (rank_cmp r z) ≡ true) i (ap is_eq (tied_itself rank_cmp_total r))))
 
   count-rank : (r : Rank) (rs : List Rank) → HasRank t r → HasRanks t rs
       → count (term_at t r) (terms_at t rs) ≡ occurrences r rs
@@ -98,8 +93,8 @@ module _ (t : Table) (h : IsTable t) where
       let same : sorted rank_cmp rs ≡ rs =
       ranks_same t h (sorted rank_cmp rs) rs (all-sorted (HasRank t) rank_cmp rs k) k
       (sym (sorted-terms t h rs k) ∙ e) in
-      sorted-ascends rank_cmp rank_total rs
-      (subst (Ascends rank_cmp) same (ascends-sorted rank_cmp rank_total rs))
+      sorted-ascends rank_cmp rank_cmp_total rs
+      (subst (Ascends rank_cmp) same (ascends-sorted rank_cmp rank_cmp_total rs))
 
 module _ (q : Query) (x : Site) (h : IsQuery q) (k : IsSite q x) (s : Subst) (b : Bounds) (a : AreBounds q x s b) where
   abbrev left : List Tree
@@ -227,7 +222,7 @@ ranks-among t (r ∷ rs) (s ∷ ss) h e =
     elim (same rank_cmp s r) as (λ b. same rank_cmp s r ≡ b
     → (if b then is_sublist rank_cmp rs ss else is_sublist rank_cmp (r ∷ rs) ss) ≡ true → HasRanks t (r ∷ rs)) [
       | true ↦ λ q k. (
-        subst (HasRank t) (same-sound rank_cmp rank_total rank_means s r q) h.0,
+        subst (HasRank t) (same-sound rank_cmp rank_cmp_total rank_same s r q) h.0,
         ranks-among t rs ss h.1 k,
       )
       | false ↦ λ q k. ranks-among t (r ∷ rs) ss h.1 k

@@ -14,8 +14,8 @@ use Rattle.mp_term.proofs.PiecesLaws.{same-itself}
 use Rattle.mp_table.specs.Table.{rank_cmp}
 use Rattle.mp_table.specs.declared.rank.Rank.{Rank}
 use Rattle.mp_search.specs.Portion.{is_at, occurrences}
-use Rattle.mp_search.proofs.ShareLaws.{drop-twice}
-use Rattle.mp_search.proofs.RankOrder.{rank_total, rank_means}
+use Rattle.mp_search.proofs.PartLaws.{drop-further}
+use Rattle.mp_subst.proofs.RankLists.{rank_same, rank_cmp_total}
 
 -- each rank is at most each one behind it
 abbrev pub AreFrom : ℕ → List Rank → Type 0
@@ -140,7 +140,7 @@ sub-longer (e ∷ l) (t ∷ ts) us h =
 pub sub-push : (l ts us : List Rank) (r : Rank) → is_sublist rank_cmp l ts ≡ true
     → is_sublist rank_cmp (l ++ r ∷ []) (ts ++ r ∷ us) ≡ true
 sub-push [] [] us r h = ap (λ b. if b then true else is_sublist rank_cmp (r ∷ []) us)
-    (same-itself rank_cmp rank_total rank_means r)
+    (same-itself rank_cmp rank_cmp_total rank_same r)
 sub-push [] (t ∷ ts) us r h = elim (same rank_cmp t r) as
     (λ b. (if b then true else is_sublist rank_cmp (r ∷ []) (ts ++ r ∷ us)) ≡ true)
     [ true ↦ refl | false ↦ sub-push [] ts us r refl ]
@@ -262,7 +262,7 @@ module _ (list : List Rank) (place count : ℕ) (r d : Rank) (up : IsSorted rank
       (ap (λ o. o.0) last_is ∙ e) z
       ∙ ap (λ m. m * is_at z r + occurrences z (drop m (r ∷ drop (place + 1) list))) one_more
       ∙ ap (λ xs. count * is_at z r + occurrences z xs)
-      (ap (drop count) (sym from_place) ∙ drop-twice count place list)
+      (ap (drop count) (sym from_place) ∙ drop-further count place list)
 
   -- or fewer
   pub portion-short : (length list < place + count) ⊎ ((place + count ≤ length list)
@@ -369,6 +369,6 @@ slice-enough z u all i j one l front behind m n =
     let whole = occurrences-front z (j - i) (drop i all) in
     let there : i + (j - i) ≡ j = omega (arith, l) in
     let rest : occurrences z (drop (j - i) (drop i all)) ≡ 0 =
-    ap (occurrences z) (drop-twice (j - i) i all ∙ ap (λ k. drop k all) there) ∙ behind in
+    ap (occurrences z) (drop-further (j - i) i all ∙ ap (λ k. drop k all) there) ∙ behind in
     let few : 1 * m ≤ occurrences z all = subst (λ k. k * m ≤ occurrences z all) one n in
     omega (arith, whole, front, rest, few)

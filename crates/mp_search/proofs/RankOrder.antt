@@ -4,10 +4,7 @@ use Rattle.std.proofs.Common.{length, filter, drop, get_or, leb, arith}
 use Rattle.std.specs.List.{AllWithin}
 use Rattle.std.specs.List.Sorted.{IsSorted, IsPartitionPoint}
 use Rattle.std.specs.Ordering.{is_lt, nat_cmp}
-use Rattle.std.specs.Cmp.{IsTotalOrder, nat_cmp_total}
-use Rattle.std.proofs.lemmas.Cmp.{on_total}
-use Rattle.std.specs.declared.cmp.Ordering.TheVariants.{Equal}
-use Rattle.mp_term.specs.OrderLaws.{nat_same}
+use Rattle.std.specs.Cmp.{nat_cmp_total}
 use Rattle.std.proofs.lemmas.Bool.{leb-true, leb-false}
 use Rattle.std.proofs.lemmas.Cmp.{by_ranked, ranked}
 use Rattle.std.proofs.lemmas.List.MinMax.{ranks_by}
@@ -16,19 +13,13 @@ use Rattle.mp_term.proofs.PiecesLaws.{nat_cmp-less}
 use Rattle.std.proofs.lemmas.List.Sorted.{sorted_far}
 use Rattle.mp_table.specs.Table.{rank_cmp}
 use Rattle.mp_table.specs.declared.rank.Rank.{Rank}
-use Rattle.mp_search.specs.Drawn.{above}
+use Rattle.mp_term.specs.Listing.{above}
 use Rattle.mp_search.proofs.Sublists.{Ascends, ascends-from_far}
-
--- the order of ranks is total, and ranks that are equal in it are one
-pub rank_means : (r s : Rank) → rank_cmp r s ≡ Equal → r ≡ s
-rank_means r s e = ap (λ n. record { 0 = n }) (nat_same r.0 s.0 e)
-
-pub rank_total : IsTotalOrder rank_cmp
-rank_total = on_total (λ r. r.0) nat_cmp_total
+use Rattle.mp_subst.proofs.RankLists.{rank_same, rank_cmp_total}
 
 -- a list of ranks that is sorted ascends
-pub ascending-ranks : (rs : List Rank) → IsSorted rank_cmp rs → Ascends rank_cmp rank_total rank_means rs
-ascending-ranks rs h = ascends-from_far rank_cmp rank_total rank_means rs
+pub ascending-ranks : (rs : List Rank) → IsSorted rank_cmp rs → Ascends rank_cmp rank_cmp_total rank_same rs
+ascending-ranks rs h = ascends-from_far rank_cmp rank_cmp_total rank_same rs
     (sorted_far (λ r s. is_lt (rank_cmp r s)) (ranks_by nat_cmp_total (λ r. r.0)) rs h)
 
 -- the items that pass, where they stand behind those that don't

@@ -13,7 +13,7 @@ use Rattle.mp_term.specs.OrderLaws.{nat_same}
 use Rattle.mp_term.specs.Normal.{IsNormal}
 use Rattle.mp_term.specs.NormalTest.{passes}
 use Rattle.mp_term.specs.Signature.{Sig}
-use Rattle.mp_term.proofs.ListLaws.{bool_same}
+use Rattle.mp_term.proofs.ListLaws.{bool_same, all-get}
 use Rattle.mp_pattern.specs.PatternTree.{Wildcard, dot, kind, plus, star, optional, counted, wild_pattern}
 use Rattle.mp_pattern.specs.Value.{same_terms}
 use Rattle.mp_table.specs.Table.{Table, HasRank, HasRanks, IsTable, term_at, terms_at, rank_of}
@@ -23,7 +23,6 @@ use Rattle.mp_theory.specs.Machine.{default_passes, reads}
 use Rattle.mp_theory.specs.Solve.{given}
 use Rattle.std.proofs.Math.Bool.{and-true}
 use Rattle.mp_theory.proofs.Wildcards.{final-passes}
-use Rattle.mp_subst.proofs.TrailLaws.{all-get}
 use Rattle.mp_search.specs.Grounds.{ground_of}
 use Rattle.mp_search.specs.Query.{HoldsGround}
 

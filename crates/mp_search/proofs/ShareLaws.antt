@@ -15,6 +15,7 @@ use Rattle.mp_pattern.proofs.NameLaws.{same_name-is, same_name-itself}
 use Rattle.mp_pattern.proofs.PlanLaws.{length-subpatterns}
 use Rattle.mp_subst.specs.Bound.{Bound, value_in}
 use Rattle.mp_subst.specs.Trail.{Trail, last_value}
+use Rattle.mp_subst.proofs.TrailLaws.{take-whole}
 use Rattle.mp_theory.specs.Known.{contributed}
 use Rattle.mp_pattern.specs.declared.pattern.Pattern as declared
 use Rattle.mp_search.specs.Query.{IsQuery}
@@ -27,35 +28,15 @@ use Rattle.mp_search.specs.Shares.{length_known, is_optional_child, is_use_of, I
 use Rattle.mp_search.specs.Site.{IsSite}
 use Rattle.mp_search.proofs.SiteLaws.{front_at, rest_of, subpatterns-first}
 use Rattle.mp_search.proofs.SubstLaws.{value_of-subst_from}
-
--- the second part of a list that stands at a place of another stands behind the first
-second_part : {X : Type 0} (xs ys ws : List X) → xs ++ ys ≡ take (length (xs ++ ys)) ws
-    → ys ≡ take (length ys) (drop (length xs) ws)
-second_part [] ys ws e = e
-second_part (x ∷ xs) ys [] e = cc
-second_part (x ∷ xs) ys (w ∷ ws) e =
-    let k : xs ++ ys ≡ take (length (xs ++ ys)) ws = cc in second_part xs ys ws k
-
-pub drop-twice : {X : Type 0} (n k : ℕ) (ws : List X) → drop n (drop k ws) ≡ drop (k + n) ws
-drop-twice {X = X} n k [] = drop-none n k
-  where
-    none : (m : ℕ) → drop {A = X} m [] ≡ []
-    none zero = refl
-    none (suc m) = refl
-
-    drop-none : (n k : ℕ) → drop n (drop {A = X} k []) ≡ drop (k + n) []
-    drop-none n k = ap (drop n) (none k) ∙ none n ∙ sym (none (k + n))
-drop-twice n zero ws = let e : 0 + n ≡ n = omega arith in ap (λ m. drop m ws) (sym e)
-drop-twice n (suc k) (w ∷ ws) =
-    let e : suc k + n ≡ suc (k + n) = omega arith in drop-twice n k ws ∙ ap (λ m. drop m (w ∷ ws)) (sym e)
+use Rattle.mp_search.proofs.PartLaws.{front-right, drop-further}
 
 -- behind a subpattern the others stand
 pub stand-behind : (q : Query) (node : ℕ) (p : Pattern) (ps : List Pattern)
     → subpatterns p ++ ps ≡ take (length (subpatterns p ++ ps)) (drop node (subpatterns q.plan.now.pattern))
     → ps ≡ take (length ps) (drop (node + pattern_nodes p) (subpatterns q.plan.now.pattern))
 stand-behind q node p ps e =
-    second_part (subpatterns p) ps (drop node (subpatterns q.plan.now.pattern)) e
-    ∙ ap (take (length ps)) (drop-twice (length (subpatterns p)) node (subpatterns q.plan.now.pattern)
+    front-right (subpatterns p) ps (drop node (subpatterns q.plan.now.pattern)) e
+    ∙ ap (take (length ps)) (drop-further (length (subpatterns p)) node (subpatterns q.plan.now.pattern)
     ∙ ap (λ n. drop (node + n) (subpatterns q.plan.now.pattern)) (length-subpatterns p))
 
 -- so the later siblings of a child do
@@ -86,11 +67,7 @@ stand-rest q node (d ∷ cs) c n i h =
 -- the others, as a slice has them
 pub all-rest : {X : Type 0} (xs : List X) → take (length xs - 1) (drop 1 xs) ≡ drop 1 xs
 all-rest [] = refl
-all-rest (x ∷ xs) = let e : suc (length xs) - 1 ≡ length xs = omega arith in rw e (whole xs)
-  where
-    whole : {X : Type 0} (ys : List X) → take (length ys) ys ≡ ys
-    whole [] = refl
-    whole (y ∷ ys) = ap (λ zs. y ∷ zs) (whole ys)
+all-rest (x ∷ xs) = let e : suc (length xs) - 1 ≡ length xs = omega arith in rw e (take-whole xs)
 
 pub rest-short : {X : Type 0} (xs : List X) → 1 ≤ length xs → length (take (length xs - 1) (drop 1 xs)) + 1 ≡ length xs
 rest-short [] h = absurd (omega (arith, h))

@@ -16,7 +16,8 @@ use Rattle.mp_term.specs.Pieces.{same, is_sublist}
 use Rattle.mp_term.proofs.ListingLaws.{irreflexive, one_way}
 use Rattle.mp_term.proofs.PiecesLaws.{same-sound, same-itself, length-without, all-piece}
 use Rattle.mp_search.specs.Sublists.{IsNextSublist, IsLastSublist, IsStuck, Rises}
-use Rattle.mp_search.specs.Drawn.{above}
+use Rattle.mp_term.specs.Listing.{above}
+use Rattle.mp_term.proofs.TestLaws.{less-from}
 
 module _ {X : Type 0} (cmp : X → X → Ordering) (o : IsTotalOrder cmp)
     (means : (x y : X) → cmp x y ≡ Equal → x ≡ y) where
@@ -194,15 +195,10 @@ module _ {X : Type 0} (cmp : X → X → Ordering) (o : IsTotalOrder cmp)
     raised-after : slice_cmp cmp (x ∷ s) raised ≡ Less
     raised-after = at (above cmp x pool) enough (all-filter (λ y. is_lt (cmp x y)) pool)
       where
-        lt : (r : Ordering) → is_lt r ≡ true → r ≡ Less
-        lt Less h = refl
-        lt Equal h = cc
-        lt Greater h = cc
-
         at : (u : List X) → length s < length u → AllByRecursion (λ y. is_lt (cmp x y) ≡ true) u
             → slice_cmp cmp (x ∷ s) (take (length (x ∷ s)) u) ≡ Less
         at [] h a = absurd (omega (arith, h))
-        at (y ∷ u) h a = rw (lt (cmp x y) a.0) refl
+        at (y ∷ u) h a = rw (less-from (cmp x y) a.0) refl
 
     after : (p : List X) → slice_cmp cmp (p ++ x ∷ s) (p ++ raised) ≡ Less
     after [] = raised-after

@@ -1,23 +1,18 @@
 -- The table of a subject and of constants holds these, and its subject is normal where all its terms are.
-use Rattle.std.proofs.Common.{◌≡◌, ℕ, zero, suc, List, [], ◌∷◌, refl, ap, sym, subst, inl, inr}
-use Rattle.std.specs.Prelude.{Some, IsSome, slice_get, slice_index_or}
+use Rattle.std.proofs.Common.{◌≡◌, List, [], ◌∷◌, refl, ap, sym, subst, inl, inr}
+use Rattle.std.specs.Prelude.{Some, IsSome, slice_index_or}
 use Rattle.std.specs.List.{AllByRecursion}
 use Rattle.std.proofs.lemmas.Option.{get_or_from_slice_get}
 use Rattle.mp_term.specs.Listing.{In}
 use Rattle.mp_term.specs.Normal.{IsNormal}
 use Rattle.mp_term.specs.Signature.{Sig}
 use Rattle.mp_term.specs.Tree.{Tree, symbol}
-use Rattle.mp_term.proofs.ListingLaws.{in-from_contains}
+use Rattle.mp_term.proofs.ListingLaws.{in-from_contains, place-in}
+use Rattle.mp_term.proofs.ListLaws.{all-get}
 use Rattle.mp_table.specs.Subterms.{IsSubtermOf}
 use Rattle.mp_table.specs.Table.{Table, IsTable, IsTableOf, rank_of}
 use Rattle.mp_table.proofs.RankLaws.{rank_of-slice_get}
-use Rattle.mp_subst.proofs.TrailLaws.{all-get, item_at}
-
--- the place of a member
-place-in : {X : Type 0} (x : X) (xs : List X) → In x xs → (i : ℕ) × (slice_get xs i ≡ Some x)
-place-in x [] h = absurd h
-place-in x (y ∷ xs) (inl e) = (zero, ap Some (sym e))
-place-in x (y ∷ xs) (inr i) = let r = place-in x xs i in (suc r.0, r.1)
+use Rattle.mp_subst.proofs.TrailLaws.{item_at}
 
 -- a term is one of its own subterms
 own-subterm : (u : Tree) (ts : List Tree) → In u ts → IsSubtermOf ts u

@@ -2,8 +2,7 @@
 use Rattle.std.proofs.Common.{◌≡◌, ℕ, suc, ◌<◌, ◌≤◌, ◌-◌, List, [], ◌∷◌, ◌++◌, take, length, Bool, true, false}
 use Rattle.std.proofs.Common.{refl, ap, sym, ◌∙◌, subst, arith, inl, inr}
 use Rattle.std.specs.Prelude.{filter, flat_map, Some, None, slice_get, if◌then◌else◌, MatchBool, IsTrue, ⊤}
-use Rattle.std.specs.declared.cmp.Ordering.{Ordering}
-use Rattle.std.specs.declared.cmp.Ordering.TheVariants.{Less, Equal, Greater}
+use Rattle.std.specs.declared.cmp.Ordering.TheVariants.{Less}
 use Rattle.std.specs.Ordering.{is_lt}
 use Rattle.std.specs.List.Sorted.{IsStrictlySortedBy}
 use Rattle.std.proofs.lemmas.List.Kept.{IsStrictlySortedBy-filter}
@@ -11,6 +10,7 @@ use Rattle.std.proofs.lemmas.Cmp.{tied_itself}
 use Rattle.std.proofs.lemmas.List.Elements.{filter-append}
 use Rattle.mp_term.specs.Search.{In}
 use Rattle.mp_term.proofs.ListingLaws.{all_in}
+use Rattle.mp_term.proofs.TestLaws.{less-from}
 use Rattle.mp_pattern.specs.Fits.{Entry, Table}
 use Rattle.mp_pattern.specs.DerivationOrder.{entry_cmp}
 use Rattle.mp_pattern.specs.Value.{Subst}
@@ -37,13 +37,8 @@ use Rattle.mp_search.proofs.FoundLaws.{above-all, wanted-first}
 use Rattle.mp_search.proofs.LevelsLaws.{entry-kept, draws-kept}
 use Rattle.mp_search.proofs.StandingLaws.{complete-by}
 
-lt-Less : (o : Ordering) → is_lt o ≡ true → o ≡ Less
-lt-Less Less h = refl
-lt-Less Equal h = cc
-lt-Less Greater h = cc
-
 -- the first of ascending entries and those above it are all
-tried-first : (b : Bool) (d : Entry) (es : List Entry) → IsStrictlySortedBy entry_cmp es
+pub tried-first : (b : Bool) (d : Entry) (es : List Entry) → IsStrictlySortedBy entry_cmp es
     → MatchBool b (slice_get es 0 ≡ Some d) (es ≡ []) → to_try b d es ≡ es
 unfolding IsStrictlySortedBy
 tried-first false d es up h = sym h
@@ -66,7 +61,7 @@ above-above e d (z ∷ zs) h =
       | false ↦ λ p. above-above e d zs h ∙ elim (is_lt (entry_cmp d z)) as
           (λ b. is_lt (entry_cmp d z) ≡ b → above_entry d zs ≡ (if b then z ∷ above_entry d zs else above_entry d zs)) [
             | true ↦ λ r. let l : entry_cmp e z ≡ Less =
-                entry_cmp_total.trans e d z h (lt-Less (entry_cmp d z) r) in
+                entry_cmp_total.trans e d z h (less-from (entry_cmp d z) r) in
                 let f : false ≡ true = sym p ∙ ap is_lt l in cc
             | false ↦ λ r. refl
           ] refl
@@ -78,7 +73,7 @@ first-above e d (z ∷ zs) h =
     elim (is_lt (entry_cmp e z)) as
     (λ b. is_lt (entry_cmp e z) ≡ b
     → slice_get (if b then z ∷ above_entry e zs else above_entry e zs) 0 ≡ Some d → entry_cmp e d ≡ Less) [
-      | true ↦ λ p k. let same : z ≡ d = cc in subst (λ y. entry_cmp e y ≡ Less) same (lt-Less (entry_cmp e z) p)
+      | true ↦ λ p k. let same : z ≡ d = cc in subst (λ y. entry_cmp e y ≡ Less) same (less-from (entry_cmp e z) p)
       | false ↦ λ p k. first-above e d zs k
     ] refl h
 
@@ -112,10 +107,6 @@ pub moved-above : (b : Bool) (e d : Entry) (es : List Entry)
     → MatchBool b (slice_get (above_entry e es) 0 ≡ Some d) (above_entry e es ≡ []) → IsTrue b → In d es
 moved-above true e d es h i = in-above d e es (in-first d (above_entry e es) h)
 moved-above false e d es h i = cc
-
-pub moved-all : (b : Bool) (d : Entry) (es : List Entry) → IsStrictlySortedBy entry_cmp es
-    → MatchBool b (slice_get es 0 ≡ Some d) (es ≡ []) → to_try b d es ≡ es
-moved-all b d es up h = tried-first b d es up h
 
 -- levels with the same front draw and find the same
 

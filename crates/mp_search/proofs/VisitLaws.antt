@@ -34,7 +34,7 @@ use Rattle.mp_search.proofs.FoundLaws.{wanted-first, above-same, after-one, at-o
 use Rattle.mp_search.proofs.LevelsLaws.{table-from, entry-kept}
 use Rattle.mp_search.proofs.OneWayLaws.{none-told}
 use Rattle.mp_search.proofs.StandingLaws.{standing-begins, Begins, complete-by}
-use Rattle.mp_search.proofs.TriedLaws.{drawn-kept, moved-all, tried-above, moved-first, moved-above}
+use Rattle.mp_search.proofs.TriedLaws.{drawn-kept, tried-above, moved-first, moved-above, tried-first}
 
 -- levels with the same front have the same items
 pub items-kept : (q : Query) (k : ℕ) (old new : List Level) (s : Subst) → take k new ≡ take k old
@@ -199,7 +199,7 @@ module _ (q : Query) (k : ℕ) (L : List Level) (s : Subst) (within : k < length
       let n1 = place_after q (take k L1) in
       ap (λ ds. filter (good q) (flat_map (items_with q k L2 s) (to_try b e2 ds)))
       (drawn-kept q p k L1 L2 l2.front draws)
-      ∙ ap (λ ds. filter (good q) (flat_map (items_with q k L2 s) ds)) (moved-all b e2 es d.ascending choice)
+      ∙ ap (λ ds. filter (good q) (flat_map (items_with q k L2 s) ds)) (tried-first b e2 es d.ascending choice)
       ∙ ap (filter (good q)) (behind-kept q k L1 L2 s es l2.front l2.many)
       ∙ ap (filter (good q)) (d.leads (length L1 - suc k))
       ∙ ap (filter (good q)) (behind-kept q k L L1 s (choices q.sig.now n1) l1.front l1.many)

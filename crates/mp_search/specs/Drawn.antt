@@ -1,8 +1,8 @@
 -- The lists that a node may take, as they are drawn from a pool or from what is left.
-use Rattle.std.specs.Prelude.{ℕ, ◌+◌, ◌-◌, min, length, List, [], ◌∷◌, ◌++◌, filter, true, false, if◌then◌else◌}
+use Rattle.std.specs.Prelude.{ℕ, ◌+◌, ◌-◌, min, length, List, [], ◌∷◌, ◌++◌, true, false, if◌then◌else◌}
 use Rattle.std.specs.declared.cmp.Ordering.{Ordering}
 use Rattle.std.specs.List.{range_with_len}
-use Rattle.std.specs.Ordering.{is_lt}
+use Rattle.mp_term.specs.Listing.{above}
 use Rattle.mp_term.specs.Order.{shortlex}
 use Rattle.mp_term.specs.Pieces.{distinct, pieces_among}
 use Rattle.mp_search.specs.declared.level.Source.{Source}
@@ -11,11 +11,6 @@ use Rattle.mp_search.specs.declared.level.Source.TheVariants.{Nothing, Front, Ba
 -- the lengths from the least to the greatest, which is at most n
 abbrev pub lengths : ℕ → ℕ → ℕ → List ℕ
 lengths least most n = range_with_len least (min most n + 1 - least)
-
-module _ {X : Type 0} (cmp : X → X → Ordering) where
-  -- the items above x
-  abbrev pub above : X → List X → List X
-  above x ys = filter (λ y. is_lt (cmp x y)) ys
 
 module _ {X : Type 0} (cmp : X → X → Ordering) where
   -- the lists by shortlex, each once: none; the fronts of what is left that have the lengths; the sublists of the pool

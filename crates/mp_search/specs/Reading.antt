@@ -1,10 +1,11 @@
 -- What the data of a search stand for: each rank is read as its term.
-use Rattle.std.specs.Prelude.{ℕ, nat_eq, List, [], ◌∷◌, map, false, Option, Some, None, slice_index_or}
+use Rattle.std.specs.Prelude.{◌≡◌, ℕ, Bool, nat_eq, List, [], ◌∷◌, map, false, Option, Some, None, slice_index_or}
 use Rattle.std.specs.Prelude.{if◌then◌else◌}
 use Rattle.mp_pattern.specs.Fits as fits
 use Rattle.mp_pattern.specs.Plan.{Variable}
 use Rattle.mp_pattern.specs.Value.{Value, Subst, same_name}
-use Rattle.mp_table.specs.Table.{Table, terms_at}
+use Rattle.mp_table.specs.declared.rank.Rank.{Rank}
+use Rattle.mp_table.specs.Table.{Table, HasRanks, terms_at}
 use Rattle.mp_subst.specs.Bound.{value_in}
 use Rattle.mp_subst.specs.Trail.{Trail, TrailEntry}
 use Rattle.mp_search.specs.declared.level.Level.{Level}
@@ -21,6 +22,10 @@ table_of t ls = map (entry_of t) ls
 -- what the node of that level takes
 abbrev pub entry_at : Table → List Level → ℕ → fits.Entry
 entry_at t ls k = slice_index_or (table_of t ls) k (record { terms = []; collapsed = false })
+
+-- the ranks and the mark of an entry stand for its terms
+abbrev pub ReadsAs : Table → List Rank × Bool → fits.Entry → Type 0
+ReadsAs t e d = HasRanks t e.0 × (terms_at t e.0 ≡ d.terms) × (e.1 ≡ d.collapsed)
 
 -- the name of the variable that has the number v in the trail, where ws are the numbers of the variables xs
 abbrev pub name_among : List ℕ → List Variable → ℕ → Option (List ℕ)

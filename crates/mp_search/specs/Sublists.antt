@@ -4,7 +4,7 @@ use Rattle.std.specs.declared.cmp.Ordering.{Ordering}
 use Rattle.std.specs.declared.cmp.Ordering.TheVariants.{Less}
 use Rattle.std.specs.Cmp.Lexicographic.{slice_cmp}
 use Rattle.mp_term.specs.Pieces.{is_sublist, without}
-use Rattle.mp_search.specs.Drawn.{above}
+use Rattle.mp_term.specs.Listing.{above}
 
 module _ {X : Type 0} (cmp : X → X → Ordering) (pool : List X) where
   -- m is a sublist with the length of l, and comes after it

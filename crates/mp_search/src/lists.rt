@@ -5,7 +5,8 @@ ghost use Rattle.std.specs.List.Sorted.{IsSorted};
 ghost use Rattle.mp_term.specs.Listing.{In};
 ghost use Rattle.mp_term.specs.Pieces.{is_sublist, without};
 ghost use Rattle.mp_table.specs.Table.{rank_cmp};
-ghost use Rattle.mp_search.specs.Drawn.{above, drawn, lists_above};
+ghost use Rattle.mp_term.specs.Listing.{above};
+ghost use Rattle.mp_search.specs.Drawn.{drawn, lists_above};
 ghost use Rattle.mp_search.specs.Levels.{rooms_of, draws_of, take_of, IsPool};
 ghost use Rattle.mp_search.specs.Sublists.{IsNextSublist, IsLastSublist, IsStuck, Rises};
 

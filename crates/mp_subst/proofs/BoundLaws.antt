@@ -11,6 +11,7 @@ use Rattle.mp_term.specs.Tree.{Tree, symbol, app, trees, tree_list}
 use Rattle.mp_term.specs.Order.{tree_cmp}
 use Rattle.mp_term.specs.OrderLaws.{tree_cmp_total}
 use Rattle.mp_term.specs.Sorting.{insert_sorted, sorted}
+use Rattle.mp_term.specs.TreeLists.{tree_list-trees}
 use Rattle.mp_pattern.specs.Value.{Value, one, seq, bag, Form, one_form, seq_form, bag_form, same_terms}
 use Rattle.mp_pattern.proofs.SortedLaws.{all-sorted}
 use Rattle.mp_table.specs.Table.{Table, term_at, terms_at, HasRank, HasRanks, rank_of, rank_cmp, IsTable}
@@ -18,10 +19,6 @@ use Rattle.mp_table.specs.declared.rank.Rank.{Rank}
 use Rattle.mp_table.proofs.RankLaws.{ranks_cmp, rank_order, rank_of-found}
 use Rattle.mp_subst.specs.Bound.{Bound, value_from, value_in, IsBoundIn}
 use Rattle.mp_subst.proofs.RankLists.{rank_same}
-
-list-of-trees : (ts : List Tree) → tree_list (trees ts) ≡ ts
-list-of-trees [] = refl
-list-of-trees (t ∷ ts) = ap (λ us. t ∷ us) (list-of-trees ts)
 
 abbrev head_of : Tree → ℕ
 head_of (symbol n) = 0
@@ -113,7 +110,7 @@ module _ (t : Table) (h : IsTable t) where
   one-same (Some f) (Some g) rs ss a b e =
       let same = ap of_one e in
       let args : terms_at t rs ≡ terms_at t ss =
-      sym (list-of-trees (terms_at t rs)) ∙ ap args_of same ∙ list-of-trees (terms_at t ss) in
+      sym (tree_list-trees (terms_at t rs)) ∙ ap args_of same ∙ tree_list-trees (terms_at t ss) in
       (ap Some (ap head_of same), ranks_same rs ss a.ranks b.ranks args)
 
   same-from : (f g : Form) (w v : Option ℕ) (rs ss : List Rank)

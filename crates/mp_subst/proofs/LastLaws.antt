@@ -11,7 +11,7 @@ use Rattle.std.proofs.lemmas.Option.{slice_get_within, slice_get-get_or, get_or_
 use Rattle.std.proofs.Math.Seq.{take-suc, take-append_seam, get_or-append_seam}
 use Rattle.mp_subst.specs.declared.trail.Entry.{Entry}
 use Rattle.mp_subst.specs.TrailView.{last_place, last_number, AreLast, AreEarlier}
-use Rattle.mp_subst.proofs.TrailViewLaws.{other_numbers}
+use Rattle.mp_subst.proofs.TrailLaws.{other_numbers}
 
 -- the last entry of a variable, when an entry is put behind them
 pub last_place-put : (es : List Entry) (e : Entry) → last_place (es ++ e ∷ []) e.var ≡ Some (length es)

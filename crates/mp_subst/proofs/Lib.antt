@@ -2,7 +2,7 @@ pub mod Equality
 mod Multisets
 mod Examples
 pub mod InstanceLaws
-mod RankLists
+pub mod RankLists
 pub mod BoundLaws
 mod JoiningLaws
 pub mod TrailLaws

@@ -16,11 +16,11 @@ use Rattle.mp_subst.specs.Bound.{Bound, value_in, IsBoundIn}
 use Rattle.mp_subst.specs.Trail.{spare_at, TrailEntry, Trail, last_value, cut, with_entry, GoesWith, joined}
 
 -- lists
-take-behind : {X : Type 0} (xs ys : List X) → take (length xs) (xs ++ ys) ≡ xs
+pub take-behind : {X : Type 0} (xs ys : List X) → take (length xs) (xs ++ ys) ≡ xs
 take-behind [] ys = refl
 take-behind (x ∷ xs) ys = ap (λ zs. x ∷ zs) (take-behind xs ys)
 
-get-behind : {X : Type 0} (xs ys : List X) (y : X) → slice_get (xs ++ y ∷ ys) (length xs) ≡ Some y
+pub get-behind : {X : Type 0} (xs ys : List X) (y : X) → slice_get (xs ++ y ∷ ys) (length xs) ≡ Some y
 get-behind [] ys y = refl
 get-behind (x ∷ xs) ys y = get-behind xs ys y
 
@@ -28,12 +28,6 @@ pub all-take : {X : Type 0} (P : X → Type 0) (n : ℕ) (xs : List X) → AllBy
 all-take P zero xs h = tt
 all-take P (suc n) [] h = tt
 all-take P (suc n) (x ∷ xs) h = (h.0, all-take P n xs h.1)
-
-pub all-get : {X : Type 0} (P : X → Type 0) (xs : List X) (i : ℕ) (x : X) → AllByRecursion P xs
-    → slice_get xs i ≡ Some x → P x
-all-get P [] i x h e = cc
-all-get P (y ∷ xs) zero x h e = let same : y ≡ x = cc in subst P same h.0
-all-get P (y ∷ xs) (suc i) x h e = all-get P xs i x h.1 e
 
 pub item_at : {X : Type 0} (xs : List X) (i : ℕ) → i < length xs → (x : X) × (slice_get xs i ≡ Some x)
 item_at [] i h = absurd (omega (arith, h))
@@ -44,12 +38,12 @@ get-end : {X : Type 0} (xs : List X) → slice_get xs (length xs) ≡ None
 get-end [] = refl
 get-end (x ∷ xs) = get-end xs
 
-take-whole : {X : Type 0} (xs : List X) → take (length xs) xs ≡ xs
+pub take-whole : {X : Type 0} (xs : List X) → take (length xs) xs ≡ xs
 take-whole [] = refl
 take-whole (x ∷ xs) = ap (λ zs. x ∷ zs) (take-whole xs)
 
 -- the value of an optional one
-some_same : (b : Bool) (v u : Value) → (if b then Some v else None) ≡ Some u → v ≡ u
+pub some_same : (b : Bool) (v u : Value) → (if b then Some v else None) ≡ Some u → v ≡ u
 some_same true v u e = cc
 some_same false v u e = cc
 
@@ -98,7 +92,7 @@ joined-either P table es x w u h q e =
 equal_numbers : (n : ℕ) → nat_eq n n ≡ true
 equal_numbers n = grind (arith, nat_tests)
 
-other_numbers : (m n : ℕ) → m ≢ n → nat_eq m n ≡ false
+pub other_numbers : (m n : ℕ) → m ≢ n → nat_eq m n ≡ false
 other_numbers m n h = elim (nat_eq m n) as (λ b. nat_eq m n ≡ b → b ≡ false) [
   | true ↦ λ e. absurd (h (grind (arith, nat_tests)))
   | false ↦ λ _. refl

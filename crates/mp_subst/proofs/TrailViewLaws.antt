@@ -14,6 +14,7 @@ use Rattle.mp_subst.specs.Bound.{bound_from}
 use Rattle.mp_subst.specs.Trail.{TrailEntry, last_value}
 use Rattle.mp_subst.specs.TrailView.{entry_value, trail_entry, stack_of, last_place, IsWithin, first_before, Laid}
 use Rattle.mp_subst.specs.TrailView.{HasRoom}
+use Rattle.mp_subst.proofs.TrailLaws.{other_numbers}
 
 range-drop : {X : Type 0} (xs : List X) (s e : ℕ) → s ≤ e → slice_range xs s e ≡ drop s (take e xs)
 range-drop xs s e h =
@@ -108,12 +109,6 @@ pub within-at : (es : List Entry) (n i : ℕ) (d : Entry) → Laid es n → i < 
 within-at [] n i d h l = absurd (omega (arith, l))
 within-at (e ∷ es) n zero d h l = (h.1.0, omega (arith, h.1.1, first_before-le es n h.2))
 within-at (e ∷ es) n (suc i) d h l = within-at es n i d h.2 (omega (arith, l))
-
-pub other_numbers : (m n : ℕ) → m ≢ n → nat_eq m n ≡ false
-other_numbers m n h = elim (nat_eq m n) as (λ b. nat_eq m n ≡ b → b ≡ false) [
-  | true ↦ λ e. absurd (h (grind (arith, nat_tests)))
-  | false ↦ λ _. refl
-] refl
 
 none_of : (b : Bool) (o : Option ℕ)
     → (elim o as (λ _. Option ℕ) [ None ↦ if b then Some 0 else None | Some i ↦ Some (i + 1) ]) ≡ None

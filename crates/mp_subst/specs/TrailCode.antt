@@ -4,11 +4,9 @@ use Rattle.std.specs.Coded.{Coded, code_by, coded×, coded_ℕ, coded_list, code
 use Rattle.mp_pattern.specs.Value.{Form}
 use Rattle.mp_pattern.specs.PlanCode.{coded_form}
 use Rattle.mp_table.specs.declared.rank.Rank.{Rank}
+use Rattle.mp_table.specs.TableCode.{coded_rank}
 use Rattle.mp_subst.specs.Bound.{Bound}
 use Rattle.mp_subst.specs.Trail.{TrailEntry, Trail}
-
-abbrev pub coded_rank : Coded Rank
-coded_rank = code_by ℕ coded_ℕ (λ r. r.0) (λ n. record { 0 = n }) (λ _. refl)
 
 abbrev pub coded_bound : Coded Bound
 coded_bound = code_by (Form × (Option ℕ × List Rank))

@@ -1,7 +1,6 @@
 -- The entries of the pieces of a text are the table of its trees.
-use Rattle.std.proofs.Common.{◌≡◌, ◌∙◌, ℕ, ◌^◌, ◌<◌, ◌≤◌, List, [], ◌∷◌, ◌++◌, map, length, get_or, ap, sym, subst, inl}
-use Rattle.std.proofs.Common.{inr}
-use Rattle.std.proofs.Common.{refl, arith}
+use Rattle.std.proofs.Common.{◌≡◌, ◌∙◌, ℕ, ◌^◌, ◌<◌, ◌≤◌, List, [], ◌∷◌, ◌++◌, map, length, get_or, ap, sym, subst}
+use Rattle.std.proofs.Common.{arith}
 use Rattle.std.proofs.Common.{Result, Ok, Err}
 use Rattle.std.specs.Prelude.{IfOk, Some, slice_get}
 use Rattle.std.specs.List.{AllByRecursion}
@@ -17,6 +16,7 @@ use Rattle.mp_term.specs.Tree.{Tree, symbol}
 use Rattle.mp_term.specs.View.{tree}
 use Rattle.mp_term.proofs.ListingLaws.{all_in, contains-from_in, in-from_contains}
 use Rattle.mp_term.specs.declared.limits.TheConstants.{MAX_TERM_NODES}
+use Rattle.mp_term.proofs.SearchLaws.{all-from_in}
 use Rattle.mp_table.specs.declared.limits.TheConstants.{MAX_CONSTANT_NODES}
 use Rattle.mp_table.specs.declared.entry.Entry.{Entry}
 use Rattle.mp_table.specs.declared.node.Node.{Node}
@@ -48,10 +48,6 @@ pub few_places : (places : List ℕ) (subject : Tree) (constants : List Tree)
 few_places places subject constants e h k =
     let all = all_preorder (subject ∷ constants) in
     omega (arith, ap length e, length-map all node_count, length-all_preorder (subject ∷ constants))
-
-all-from_in : (P : Tree → Type 0) (ts : List Tree) → ((u : Tree) → In u ts → P u) → AllByRecursion P ts
-all-from_in P [] h = tt
-all-from_in P (t ∷ ts) h = (h t (inl refl), all-from_in P ts (λ u i. h u (inr i)))
 
 first-preorder : (t : Tree) (ts : List Tree) → term_in (all_preorder (t ∷ ts)) 0 ≡ t
 first-preorder t ts = ap (λ l. term_in (l ++ all_preorder ts) 0) (preorder_is t)

@@ -2,11 +2,11 @@
 use Rattle.std.proofs.Common.{◌≡◌, ℕ, zero, suc, ◌+◌, ◌<◌, ◌++◌, List, [], ◌∷◌, map, length, get_or, refl, ap, sym}
 use Rattle.std.proofs.Common.{◌∙◌, subst, take}
 use Rattle.std.proofs.Common.{inl, inr}
-use Rattle.std.proofs.Common.{true, arith}
+use Rattle.std.proofs.Common.{arith}
 use Rattle.std.specs.Prelude.{Contains}
 use Rattle.std.specs.declared.cmp.Ordering.{Ordering}
-use Rattle.std.specs.declared.cmp.Ordering.TheVariants.{Less, Equal, Greater}
-use Rattle.std.specs.Ordering.{eq_by_cmp, is_eq}
+use Rattle.std.specs.declared.cmp.Ordering.TheVariants.{Equal}
+use Rattle.std.specs.Ordering.{eq_by_cmp}
 use Rattle.std.specs.Cmp.{IsTotalOrder}
 use Rattle.std.specs.List.{AllByRecursion, dedup}
 use Rattle.std.specs.List.Sorted.{IsStrictlySortedBy, IsSorted, IsPermutation}
@@ -18,6 +18,8 @@ use Rattle.std.proofs.lemmas.List.Kept.{Any-dedup, IsStrictlySortedBy-dedup}
 use Rattle.std.proofs.lemmas.List.Sorted.{All-permutation, Contains-permutation}
 use Rattle.mp_term.specs.Listing.{In}
 use Rattle.mp_term.proofs.ListLaws.{all-append, all-also}
+use Rattle.mp_term.proofs.TestLaws.{equal-from}
+use Rattle.mp_term.proofs.SearchLaws.{in-left}
 use Rattle.mp_table.proofs.Ascending.{keys_ascend, place}
 
 -- the key at a place is a member
@@ -37,12 +39,6 @@ in-place (x ∷ xs) (suc i) d h = inr (in-place xs i d (omega (arith, h)))
 pub in-last : {X : Type 0} (x : X) (xs : List X) → In x (xs ++ x ∷ [])
 in-last x [] = inl refl
 in-last x (y ∷ xs) = inr (in-last x xs)
-
--- and so is each one before
-pub in-front : {X : Type 0} (x : X) (xs ys : List X) → In x xs → In x (xs ++ ys)
-in-front x [] ys h = absurd h
-in-front x (y ∷ xs) ys (inl e) = inl e
-in-front x (y ∷ xs) ys (inr h) = inr (in-front x xs ys h)
 
 all-own : {X Y : Type 0} (f : Y → X) (ys : List Y) → AllByRecursion (λ y. In (f y) (map f ys)) ys
 all-own f [] = tt
@@ -75,7 +71,7 @@ pub members-pushed : {X Y : Type 0} (f : Y → X) (ks : List X) (ys : List Y) (i
 members-pushed f ks ys i d h a =
     let k = f (get_or ys i d) in
     members-more f (ks ++ k ∷ []) ys i d h (in-last k ks)
-    (all-also (λ y. In (f y) ks) (λ y. In (f y) (ks ++ k ∷ [])) (λ y. in-front (f y) ks (k ∷ [])) (take i ys) a)
+    (all-also (λ y. In (f y) ks) (λ y. In (f y) (ks ++ k ∷ [])) (λ y. in-left (f y) ks (k ∷ [])) (take i ys) a)
 
 -- each key is a member
 pub from-keys : {X Y : Type 0} (f : Y → X) (ks : List X) (ys : List Y) → AllByRecursion (λ y. In (f y) ks) ys → (x : X)
@@ -83,11 +79,6 @@ pub from-keys : {X Y : Type 0} (f : Y → X) (ks : List X) (ys : List Y) → All
 from-keys f ks [] h x i = absurd i
 from-keys f ks (y ∷ ys) h x (inl e) = subst (λ z. In z ks) (sym e) h.0
 from-keys f ks (y ∷ ys) h x (inr i) = from-keys f ks ys h.1 x i
-
-pub equal-from : (o : Ordering) → is_eq o ≡ true → o ≡ Equal
-equal-from Less e = cc
-equal-from Equal e = refl
-equal-from Greater e = cc
 
 module _ {X Y : Type 0} (cmp : X → X → Ordering) (o : IsTotalOrder cmp) (key : Y → X) where
   abbrev by_key : Y → Y → Ordering

@@ -10,6 +10,7 @@ use Rattle.mp_term.specs.Positions.{subterm}
 use Rattle.mp_term.specs.Size.{node_count, node_counts, all_nodes}
 use Rattle.mp_term.specs.Tree.{Tree, symbol, app, Trees, no_trees, more_trees, tree_list, trees}
 use Rattle.mp_term.specs.TreeLists.{trees-tree_list}
+use Rattle.mp_term.proofs.SearchLaws.{in-left, in-right, from_in-append}
 use Rattle.mp_table.specs.Preorder.{preorder, preorders, all_preorder}
 use Rattle.mp_table.specs.Subterms.{IsSubterm, IsSubtermOf, arguments}
 
@@ -82,20 +83,6 @@ mutual
             (all_begin ts (i - node_count t) d (omega arith))
       ] refl
 
-in-left : {X : Type 0} (x : X) (xs ys : List X) → In x xs → In x (xs ++ ys)
-in-left x [] ys h = absurd h
-in-left x (y ∷ xs) ys (inl e) = inl e
-in-left x (y ∷ xs) ys (inr h) = inr (in-left x xs ys h)
-
-in-right : {X : Type 0} (x : X) (xs ys : List X) → In x ys → In x (xs ++ ys)
-in-right x [] ys h = h
-in-right x (y ∷ xs) ys h = inr (in-right x xs ys h)
-
-in-either : {X : Type 0} (x : X) (xs ys : List X) → In x (xs ++ ys) → In x xs ⊎ In x ys
-in-either x [] ys h = inr h
-in-either x (y ∷ xs) ys (inl e) = inl (inl e)
-in-either x (y ∷ xs) ys (inr h) = elim (in-either x xs ys h) [ inl k ↦ inl (inr k) | inr k ↦ inr k ]
-
 -- a subterm of an argument
 abbrev Below : Trees → Tree → Type 0
 Below ts u = (i : ℕ) × (v : Tree) × (slice_get (tree_list ts) i ≡ Some v) × IsSubterm v u
@@ -114,7 +101,7 @@ mutual
 
   below-from_in : (ts : Trees) (u : Tree) → In u (preorders ts) → Below ts u
   below-from_in no_trees u h = absurd h
-  below-from_in (more_trees t ts) u h = elim (in-either u (preorder t) (preorders ts) h) [
+  below-from_in (more_trees t ts) u h = elim (from_in-append u (preorder t) (preorders ts) h) [
     | inl k ↦ (0, t, refl, subterm-from_in t u k)
     | inr k ↦ below_next t ts u (below-from_in ts u k)
   ]
@@ -144,7 +131,7 @@ in-from_subterm (i ∷ p) (app f ts) u e =
 -- what holds of the subterms of some trees
 pub subterm_of-from_in : (ts : List Tree) (u : Tree) → In u (all_preorder ts) → IsSubtermOf ts u
 subterm_of-from_in [] u h = h
-subterm_of-from_in (t ∷ ts) u h = elim (in-either u (preorder t) (all_preorder ts) h) [
+subterm_of-from_in (t ∷ ts) u h = elim (from_in-append u (preorder t) (all_preorder ts) h) [
   | inl k ↦ inl (subterm-from_in t u k)
   | inr k ↦ inr (subterm_of-from_in ts u k)
 ]

@@ -21,10 +21,10 @@ use Rattle.mp_term.specs.Pieces.{same, without, is_sublist, is_prefix}
 use Rattle.mp_term.specs.OrderLaws.{tree_cmp_total, nat_same, tree_same}
 use Rattle.mp_term.specs.Tree.{Tree, symbol}
 use Rattle.mp_term.proofs.SignatureLaws.{position-first, position-behind}
+use Rattle.mp_term.proofs.TestLaws.{equal-from}
 use Rattle.mp_table.specs.Table.{Table, term_at, terms_at, HasRank, HasRanks, rank_of, rank_cmp}
 use Rattle.mp_table.specs.declared.rank.Rank.{Rank}
 use Rattle.mp_table.proofs.Ascending.{items_cmp}
-use Rattle.mp_table.proofs.Distinct.{equal-from}
 
 module _ (t : Table) (up : IsStrictlySortedBy tree_cmp t.terms) where
   -- lists of ranks compare as their terms

@@ -40,6 +40,10 @@ rank_cmp r s = nat_cmp r.0 s.0
 abbrev pub rank_of : Table → Tree → Option ℕ
 rank_of t u = position (eq_by_cmp tree_cmp u) t.terms
 
+-- the table's subject
+abbrev pub subject_of : Table → Tree
+subject_of t = slice_index_or t.terms t.root (symbol [])
+
 -- what holds of each table: its terms ascend, it holds the arguments of each, and the root is one of them
 pub record IsTable (t : Table) : Type 0 where
   pub ascending : IsStrictlySortedBy tree_cmp t.terms

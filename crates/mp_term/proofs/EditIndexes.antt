@@ -21,6 +21,7 @@ use Rattle.mp_term.specs.Edited.{edited}
 use Rattle.mp_term.specs.Excess.{excess}
 use Rattle.mp_term.specs.EditFault.{overlap, overlap_after, fault_of, size_fault, is_astray, breaks, edit_fault}
 use Rattle.mp_term.proofs.ListLaws.{all-also}
+use Rattle.mp_term.proofs.SizeLaws.{some-nodes}
 
 -- ---- the edits that a fault names
 
@@ -75,10 +76,6 @@ fault-among sig t es =
     (found (IsAmong n) Arity (breaks sig t es) es (λ i within. within)) (size-among n (excess (edited es t)))))
 
 -- ---- the indexes of a position
-
-some-nodes : (t : Tree) → 1 ≤ node_count t
-some-nodes (symbol n) = omega arith
-some-nodes (app f ts) = omega arith
 
 child : (ts : Trees) (i : ℕ) (u : Tree) → slice_get (tree_list ts) i ≡ Some u
     → (i ≤ node_counts ts) × (node_count u ≤ node_counts ts)

@@ -10,9 +10,8 @@ use Rattle.mp_term.specs.declared.edit.Edit.{Edit}
 use Rattle.mp_term.specs.Tree.{Tree, symbol, app, Trees, no_trees, more_trees, tree_list, trees}
 use Rattle.mp_term.specs.TreeLists.{trees-tree_list}
 use Rattle.mp_term.specs.Edited.{new_terms, edited_below, edited_args, edited_at}
-use Rattle.std.proofs.Common.{◌&&◌, ◌||◌, ◌≤◌, take}
+use Rattle.std.proofs.Common.{◌&&◌, ◌||◌, ◌≤◌}
 use Rattle.std.proofs.Math.Bool.{and-false}
-use Rattle.std.proofs.lemmas.Slice.Eq.{bytes_eq-Decides}
 use Rattle.mp_term.proofs.ListLaws.{drop-item, bool_same}
 use Rattle.mp_term.proofs.NormalTestLaws.{&&-swap}
 
@@ -46,11 +45,7 @@ starts-short [] (k ∷ q) i h = refl
 starts-short (j ∷ p) [] i h = absurd (omega arith)
 starts-short (j ∷ p) (k ∷ q) i h = rw (starts-short p q i (omega arith), and-false (nat_eq k j)) refl
 
--- what a position begins with is a front of it
-pub starts-take : (p q : List ℕ) → starts_with nat_eq p q ≡ true → take (length q) p ≡ q
-starts-take p q h = sym ((bytes_eq-Decides q (take (length q) p)).0 h)
-
--- and with each front of what it begins with
+-- a position begins with each front of what it begins with
 pub starts-front : (p q r : List ℕ) → starts_with nat_eq p (q ++ r) ≡ true → starts_with nat_eq p q ≡ true
 starts-front p [] r h = refl
 starts-front [] (j ∷ q) r h = cc

@@ -1,10 +1,11 @@
--- What holds of each item of a list, the item at which a loop over a list stands, and tests that are the same.
+-- What holds of each item of a list, the item at an index, and tests that are the same.
 use Rattle.std.proofs.Common.{◌≡◌, ℕ, zero, suc, subst, ◌+◌, ◌<◌, List, [], ◌∷◌, ◌++◌, map, length, get_or, take, drop}
-use Rattle.std.proofs.Common.{drop-cons, add-one, Bool, true, false, refl, ap, sym, ◌∙◌}
-use Rattle.std.specs.Prelude.{flat_map, filter, if◌then◌else◌, Some, slice_get}
+use Rattle.std.proofs.Common.{drop-cons, add-one, arith, Bool, true, false, refl, ap, sym, ◌∙◌, ◌⊎◌, inl, inr}
+use Rattle.std.specs.Prelude.{flat_map, Some, None, slice_get, slice_index_or}
 use Rattle.std.specs.List.{AllByRecursion, list_all}
 use Rattle.std.proofs.lemmas.Bool.{and_parts}
 use Rattle.std.proofs.lemmas.List.{map-append, take-map, drop-map}
+use Rattle.std.proofs.lemmas.Option.{slice_get_within, get_or_from_slice_get}
 
 -- what holds of the items of two lists holds of those of both
 pub all-append : {X : Type 0} (P : X → Type 0) (xs ys : List X) → AllByRecursion P xs → AllByRecursion P ys
@@ -41,6 +42,31 @@ pub drop-item : {X : Type 0} (items : List X) (i : ℕ) (x : X) → i < length i
     → drop i items ≡ x ∷ drop (i + 1) items
 drop-item items i x within is = drop-cons items i x within ∙ (λ j. sym is j ∷ drop (sym (add-one i) j) items)
 
+pub drop-at : {X : Type 0} (xs : List X) (i : ℕ) (x : X) → slice_get xs i ≡ Some x → drop i xs ≡ x ∷ drop (i + 1) xs
+drop-at xs i x e = drop-item xs i x (slice_get_within xs i x e) (sym (get_or_from_slice_get xs i x x e))
+
+-- the same, by the next number
+pub drop-held : {X : Type 0} (xs : List X) (i : ℕ) (x : X) → slice_get xs i ≡ Some x → drop i xs ≡ x ∷ drop (suc i) xs
+drop-held [] i x e = cc
+drop-held (y ∷ ys) zero x e = let same : y ≡ x = cc in ap (λ z. z ∷ ys) same
+drop-held (y ∷ ys) (suc i) x e = drop-held ys i x e
+
+-- from where no item is on, there is none
+pub drop-none : {X : Type 0} (xs : List X) (i : ℕ) → slice_get xs i ≡ None → drop i xs ≡ []
+drop-none [] zero e = refl
+drop-none [] (suc i) e = refl
+drop-none (y ∷ ys) zero e = cc
+drop-none (y ∷ ys) (suc i) e = drop-none ys i e
+
+-- an item of a list with one more is one of the list, or the last
+pub slice_get-pushed : {X : Type 0} (xs : List X) (x y : X) (i : ℕ) → slice_get (xs ++ x ∷ []) i ≡ Some y
+    → (slice_get xs i ≡ Some y) ⊎ ((i ≡ length xs) × (x ≡ y))
+slice_get-pushed [] x y zero e = let same : Some x ≡ Some y = e in inr (refl, cc)
+slice_get-pushed [] x y (suc i) e = cc
+slice_get-pushed (z ∷ xs) x y zero e = inl e
+slice_get-pushed (z ∷ xs) x y (suc i) e =
+    elim (slice_get-pushed xs x y i e) [ inl h ↦ inl h | inr h ↦ inr (ap suc h.0, h.1) ]
+
 -- an item put in at a place, and mapped
 pub map-insert : {X Y : Type 0} (f : X → Y) (i : ℕ) (xs : List X) (x : X)
     → map f (take i xs ++ (x ∷ drop i xs)) ≡ take i (map f xs) ++ (f x ∷ drop i (map f xs))
@@ -54,13 +80,6 @@ pub map-remove : {X Y : Type 0} (f : X → Y) (i : ℕ) (xs : List X)
 map-remove f i xs = map-append f (take i xs) (drop (suc i) xs)
     ∙ (λ j. sym (take-map f i xs) j ++ sym (drop-map f (suc i) xs) j)
 
--- a filter goes item by item
-pub filter-front : {X : Type 0} (p : X → Bool) (x : X) (xs : List X)
-    → filter p (x ∷ xs) ≡ filter p (x ∷ []) ++ filter p xs
-filter-front p x xs =
-    elim (p x) as (λ b. (if b then x ∷ filter p xs else filter p xs) ≡ (if b then x ∷ [] else []) ++ filter p xs)
-    [ true ↦ refl | false ↦ refl ]
-
 -- tests that pass in the same cases are the same
 pub bool_same : (a b : Bool) → (a ≡ true → b ≡ true) → (b ≡ true → a ≡ true) → a ≡ b
 bool_same true b f g = sym (f refl)
@@ -73,3 +92,25 @@ pub all-at : {X : Type 0} (p : X → Bool) (xs : List X) (i : ℕ) (x : X) → l
 all-at p [] i x h e = cc
 all-at p (y ∷ ys) zero x h e = let same : y ≡ x = cc in subst (λ z. p z ≡ true) same (and_parts _ _ h).0
 all-at p (y ∷ ys) (suc i) x h e = all-at p ys i x (and_parts _ _ h).1 e
+
+-- what holds of each item holds of the one at an index
+pub all-get : {X : Type 0} (P : X → Type 0) (xs : List X) (i : ℕ) (x : X) → AllByRecursion P xs
+    → slice_get xs i ≡ Some x → P x
+all-get P [] i x h e = cc
+all-get P (y ∷ xs) zero x h e = let same : y ≡ x = cc in subst P same h.0
+all-get P (y ∷ xs) (suc i) x h e = all-get P xs i x h.1 e
+
+pub all-index : {X : Type 0} (P : X → Type 0) (xs : List X) (i : ℕ) (d : X) → AllByRecursion P xs → i < length xs
+    → P (slice_index_or xs i d)
+all-index P [] i d h k = absurd (omega (arith, k))
+all-index P (y ∷ xs) zero d h k = h.0
+all-index P (y ∷ xs) (suc i) d h k = all-index P xs i d h.1 (omega (arith, k))
+
+-- two lists of which nothing comes are empty
+pub both-empty : {X : Type 0} (xs ys : List X) → xs ++ ys ≡ [] → (xs ≡ []) × (ys ≡ [])
+both-empty [] ys e = (refl, e)
+both-empty (x ∷ xs) ys e = cc
+
+-- what two options hold that are the same is the same
+pub some-same : {X : Type 0} (x y : X) → Some x ≡ Some y → x ≡ y
+some-same x y e = cc

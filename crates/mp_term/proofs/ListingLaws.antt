@@ -1,7 +1,7 @@
 -- Members of lists, and ascending lists: a fact has one listing in a total order.
 use Rattle.std.proofs.Common.{◌≡◌, zero, suc, ◌<◌, ℕ, List, [], ◌∷◌, refl, sym, ap, ◌∙◌, inl, inr, subst, length}
 use Rattle.std.proofs.Common.{get_or, arith}
-use Rattle.std.specs.Prelude.{Contains}
+use Rattle.std.specs.Prelude.{Contains, Some, slice_get}
 use Rattle.std.specs.declared.cmp.Ordering.{Ordering}
 use Rattle.std.specs.declared.cmp.Ordering.TheVariants.{Less, Equal}
 use Rattle.std.specs.Cmp.{IsTotalOrder}
@@ -23,6 +23,12 @@ in-at x (y ∷ ys) (suc k) h e = inr (in-at x ys k (omega arith) e)
 
 pub in-from_contains : {X : Type 0} (x : X) (xs : List X) → Contains xs x → In x xs
 in-from_contains x xs h = in-at x xs h.0 h.1 h.2
+
+-- a member stands at some index
+pub place-in : {X : Type 0} (x : X) (xs : List X) → In x xs → (i : ℕ) × (slice_get xs i ≡ Some x)
+place-in x [] h = absurd h
+place-in x (y ∷ xs) (inl e) = (zero, ap Some (sym e))
+place-in x (y ∷ xs) (inr h) = let r = place-in x xs h in (suc r.0, r.1)
 
 -- what holds of each item holds of a member
 pub all_in : {X : Type 0} (P : X → Type 0) (xs : List X) (x : X) → AllByRecursion P xs → In x xs → P x

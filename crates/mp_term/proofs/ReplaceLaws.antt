@@ -17,7 +17,8 @@ use Rattle.mp_term.specs.EditFault.{overlap_after, size_fault, is_astray, breaks
 use Rattle.mp_term.proofs.EditFaultLaws.{or-left, or-right}
 use Rattle.mp_term.proofs.SignatureLaws.{is_some-position}
 
-neither : {X : Type 0} (o p : Option X) → option_or o p ≡ None → (o ≡ None) × (p ≡ None)
+-- neither of two options is there
+pub neither : {X : Type 0} (o p : Option X) → option_or o p ≡ None → (o ≡ None) × (p ≡ None)
 neither None p h = (refl, h)
 neither (Some x) p h = cc
 

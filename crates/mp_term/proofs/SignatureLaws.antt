@@ -60,7 +60,7 @@ module _ {X : Type 0} (p : X → Bool) where
       by_test true e same = ap is_some (position-first x xs e)
       by_test false e same = ap is_some (position-behind x xs e) ∙ still (position p xs) ∙ same
 
-list_any-map : {X Y : Type 0} (p : X → Bool) (f : Y → X) (ys : List Y)
+pub list_any-map : {X Y : Type 0} (p : X → Bool) (f : Y → X) (ys : List Y)
     → list_any p (map f ys) ≡ list_any (λ y. p (f y)) ys
 list_any-map p f [] = refl
 list_any-map p f (y ∷ ys) = ap (λ b. p (f y) || b) (list_any-map p f ys)

@@ -2,7 +2,7 @@
 
 ghost use Rattle.std.specs.Prelude.{◌≡◌, ◌≤◌, length, IsTrue};
 ghost use Rattle.mp_term.specs.Size.{node_count};
-ghost use Rattle.mp_cursor.specs.Listing.{subject_of};
+ghost use Rattle.mp_table.specs.Table.{subject_of};
 ghost use Rattle.mp_term.specs.View.{tree};
 ghost use Rattle.mp_pattern.specs.Planned.{rule_plan};
 ghost use Rattle.mp_tests.specs.Matched.{IsMatched};

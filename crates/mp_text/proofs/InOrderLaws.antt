@@ -4,6 +4,7 @@ use Rattle.std.proofs.Common.{◌∙◌, subst}
 use Rattle.std.specs.Prelude.{if◌then◌else◌}
 use Rattle.mp_term.specs.declared.signature.OpDecl.{OpDecl}
 use Rattle.mp_term.specs.Signature.{Sig}
+use Rattle.mp_term.proofs.ListLaws.{both-empty}
 use Rattle.mp_pattern.specs.declared.limits.TheConstants.{MAX_SUBJECTS}
 use Rattle.mp_parser.specs.declared.parser.Parser.{Parser}
 use Rattle.mp_parser.specs.Tokens.{Placed}
@@ -19,7 +20,7 @@ use Rattle.mp_build.specs.Build.{op_decls, kind_decls, sig_of}
 use Rattle.mp_build.specs.Checks.{op_statement_faults, kind_statement_faults, faults_by, name_faults, term_faults}
 use Rattle.mp_build.specs.Checks.{is_large_term}
 use Rattle.mp_build.proofs.Declared.{op_decls-other, kind_decls-other}
-use Rattle.mp_build.proofs.Faultless.{nil-append, nil-both}
+use Rattle.mp_build.proofs.Faultless.{nil-both}
 use Rattle.mp_text.specs.declared.reader.Draft.{Draft}
 use Rattle.mp_text.specs.Draft.{IsDraftOf}
 use Rattle.mp_text.specs.File.{file_tree}
@@ -89,9 +90,9 @@ faults-push : (ss : List Statement) (s : Statement) → is_declaration s ≡ fal
 faults-push ss s other h k =
     let o = is-other s other in
     let more = ss ++ s ∷ [] in
-    let all = nil-append (faults_by op_statement_faults [] ss ++ faults_by (kind_statement_faults (op_decls ss)) [] ss)
+    let all = both-empty (faults_by op_statement_faults [] ss ++ faults_by (kind_statement_faults (op_decls ss)) [] ss)
     (faults_by (statement_faults (sig_of ss)) [] ss) h in
-    let declared = nil-append (faults_by op_statement_faults [] ss)
+    let declared = both-empty (faults_by op_statement_faults [] ss)
     (faults_by (kind_statement_faults (op_decls ss)) [] ss) all.0 in
     let ops = faults_by-faultless op_statement_faults ss s declared.0 (o.op_faultless ss) in
     let kinds = ap (λ ds. faults_by (kind_statement_faults ds) [] more) (op_decls-other ss s o.op)

@@ -12,7 +12,7 @@ use Rattle.mp_term.specs.Signature.{Sig, Kind, has_name, has_sign, shares_sign, 
 use Rattle.mp_term.specs.Signature.{kind_names, IsSignature}
 use Rattle.mp_term.proofs.NameSets.{names_ascend-name_set}
 use Rattle.mp_term.proofs.SignatureLaws.{IsSignature-add_op, IsSignature-add_kind}
-use Rattle.mp_term.proofs.ListLaws.{all-append}
+use Rattle.mp_term.proofs.ListLaws.{all-append, both-empty}
 use Rattle.mp_parser.specs.Syntax.{Spot, Flag, Assoc, Comm, One, Infixed, Statement, OpOf, KindOf, RuleOf, SubjectOf}
 use Rattle.mp_parser.specs.Syntax.{EditOf, HaveSigns, AreNames, StatementHasNames}
 use Rattle.mp_build.specs.Build.{op_decl, op_decls, kind_decl, kind_decls, sig_with}
@@ -22,7 +22,7 @@ use Rattle.mp_build.specs.Flags.{sign_spot}
 use Rattle.mp_build.specs.Names.{number_of}
 use Rattle.mp_build.proofs.Declared.{is_among-has_name, is_among-list_any, op_decls-append, op_decls-other}
 use Rattle.mp_build.proofs.Declared.{kind_decls-append, kind_decls-other}
-use Rattle.mp_build.proofs.Faultless.{nil-append, nil-fault_if}
+use Rattle.mp_build.proofs.Faultless.{nil-fault_if}
 use Rattle.mp_build.proofs.OpLaws.{declarable-op_faults}
 use Rattle.mp_pattern.specs.SoundRule.{IsSymbol}
 use Rattle.mp_build.proofs.SoundLaws.{named-by, IsSymbol-symbol_faults}
@@ -60,8 +60,8 @@ op_fault-op_faults ds name least more flags h =
     let bad = fault_if (has_bad_flags name least more flags) _ name.place in
     let large = fault_if (ltb MAX_ARITY (number_of least.text)) _ least.place in
     let signs = held_sign_faults ds (sign_spot flags) in
-    let p = nil-append names (bad ++ (large ++ signs)) h in
-    let q = nil-append large signs (nil-append bad (large ++ signs) p.1).1 in
+    let p = both-empty names (bad ++ (large ++ signs)) h in
+    let q = both-empty large signs (both-empty bad (large ++ signs) p.1).1 in
     let n = named-by MAX_OPS (map (λ d. d.name) ds) false name p.0 in
     let apart : list_any (clashes d) ds ≡ false =
     none-clashes d ds (is_among-has_name name.text ds ∙ n.other) (other-sign ds (sign_spot flags) q.1) in
@@ -139,7 +139,7 @@ symbols-of : (ds : List OpDecl) (ss : List Statement) (members : List Spot) → 
     → AllByRecursion (IsSymbol (sig_with ds [])) (map (λ m. m.text) members)
 symbols-of ds ss [] names h = tt
 symbols-of ds ss (m ∷ members) names h =
-    let p = nil-append (symbol_faults (sig_with ds ss) m) (flat_map (symbol_faults (sig_with ds ss)) members) h in
+    let p = both-empty (symbol_faults (sig_with ds ss) m) (flat_map (symbol_faults (sig_with ds ss)) members) h in
     (IsSymbol-symbol_faults (sig_with ds []) m names.0 p.0, symbols-of ds ss members names.1 p.1)
 
 some-member : (members : List Spot) → members ≢ [] → 0 < length (map (λ m. m.text) members)
@@ -162,7 +162,7 @@ module _ (ds : List OpDecl) where
       let sig = sig_with ds earlier in
       let k = kind_decl name members in
       let written = map (λ m. m.text) members in
-      let p = nil-append (name_faults MAX_KINDS (kind_names sig) (ltb MAX_KIND_SYMBOLS (length members)) name)
+      let p = both-empty (name_faults MAX_KINDS (kind_names sig) (ltb MAX_KIND_SYMBOLS (length members)) name)
       (flat_map (symbol_faults sig) members) h in
       let n = named-by MAX_KINDS (kind_names sig) (ltb MAX_KIND_SYMBOLS (length members)) name p.0 in
       let room : leb MAX_KINDS (length (kind_names sig)) ≡ false = search (rules, n.few) in

@@ -3,7 +3,7 @@ use Rattle.std.proofs.Common.{◌≡◌, ◌≤◌, ℕ, ◌+◌, Bool, true, fa
 use Rattle.std.proofs.Common.{arith, sym, Option, Some, None, Result, Ok, Err, append_assoc, subst}
 use Rattle.std.specs.Prelude.{IfOk, IfSome, ◌&&◌, ◌||◌, not, nat_eq, nat_le, ◌==◌, if◌then◌else◌}
 use Rattle.std.specs.List.{AllByRecursion}
-use Rattle.std.proofs.lemmas.Bool.{leb-true, le-leb, eqb-true}
+use Rattle.std.proofs.lemmas.Bool.{leb-true, le-leb, eqb-true, and_from}
 use Rattle.std.proofs.lemmas.List.{map_push, append-nil}
 use Rattle.mp_term.specs.declared.signature.OpDecl.{OpDecl}
 use Rattle.mp_term.specs.Signature.{Sig, allows}
@@ -71,9 +71,6 @@ pub allows_patterns-allows : (ps : List Pattern) (d : OpDecl) → AllByRecursion
     → allows (length ps) d ≡ true → allows_patterns ps d ≡ true
 allows_patterns-allows ps d ones h = by_fixed d.fixed refl h
   where
-    both : (a b : Bool) → a ≡ true → b ≡ true → (a && b) ≡ true
-    both a b p q = rw (p, q) refl
-
     reached : d.least ≤ length ps → reaches d.least (greatest d.assoc ps) ≡ true
     reached l = reaches-least d.least (length ps) (greatest d.assoc ps) l (reaches-greatest d.assoc ps ones)
 
@@ -82,9 +79,9 @@ allows_patterns-allows ps d ones h = by_fixed d.fixed refl h
         → (reaches d.least (greatest d.assoc ps) && (not fixed || nat_le (fewest ps) d.least)) ≡ true
     by_fixed true e g =
         let same = eqb-true (length ps) d.least g in
-        both _ _ (reached (omega (arith, same)))
+        and_from _ _ (reached (omega (arith, same)))
         (le-leb (fewest ps) d.least (omega (arith, same, fewest-length ps ones)))
-    by_fixed false e g = both _ true (reached (leb-true d.least (length ps) g)) refl
+    by_fixed false e g = and_from _ true (reached (leb-true d.least (length ps) g)) refl
 
 -- one more that may take one argument
 ones-push : (ps : List Pattern) (p : Pattern) → AllByRecursion MayTakeOne ps → MayTakeOne p

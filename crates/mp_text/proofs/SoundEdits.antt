@@ -20,7 +20,7 @@ use Rattle.mp_term.specs.Signature.{Sig, all_in_order}
 use Rattle.mp_term.specs.Normal.{normal}
 use Rattle.mp_term.specs.EditFault.{is_astray, edit_fault}
 use Rattle.mp_term.proofs.EditIndexes.{IsAmong, fault-among, indexes-few}
-use Rattle.mp_term.proofs.ListLaws.{all-also, all-append}
+use Rattle.mp_term.proofs.ListLaws.{all-also, all-append, all-get, both-empty}
 use Rattle.mp_term.proofs.NormalSize.{depth-normal}
 use Rattle.mp_term.proofs.SignatureLaws.{is_some-position}
 use Rattle.mp_pattern.specs.declared.limits.TheConstants.{MAX_TERM_NODES, MAX_DEPTH, MAX_SUBJECTS, MAX_INDEX}
@@ -47,7 +47,7 @@ use Rattle.mp_text.specs.FileChecks.{statement_faults}
 use Rattle.mp_text.specs.Sound.{IsSoundSubject, new_depth, IsSoundEdit, IsMakeable, AreOn, IsSoundEditSet}
 use Rattle.mp_build.proofs.Declared.{is_some-found}
 use Rattle.mp_text.proofs.FileSteps.{names-subjects_of, subjects_of-append, edit_sets-push}
-use Rattle.mp_build.proofs.Faultless.{nil-append, nil-fault_if}
+use Rattle.mp_build.proofs.Faultless.{nil-fault_if}
 use Rattle.mp_build.proofs.SoundLaws.{named-by, sound-term_of, depth-term_of}
 use Rattle.mp_text.proofs.SoundSubject.{sound-subject}
 use Rattle.mp_text.proofs.Statements.{IsRead}
@@ -87,12 +87,6 @@ small-indexes t few (e ∷ es) h =
       small-indexes t few es o.1,
     )
 
-at-all : {X : Type 0} (P : X → Type 0) (xs : List X) (i : ℕ) (x : X) → AllByRecursion P xs → slice_get xs i ≡ Some x
-    → P x
-at-all P [] i x h e = cc
-at-all P (y ∷ ys) zero x h e = let same : y ≡ x = cc in subst P same h.0
-at-all P (y ∷ ys) (suc i) x h e = at-all P ys i x h.1 e
-
 least-depth : (ts : List term.Tree) → MAX_DEPTH - 1 ≤ new_depth ts
 least-depth [] = omega arith
 least-depth (t ∷ []) = omega arith
@@ -114,7 +108,7 @@ module _ (sig : Sig) (ordered : all_in_order sig.ops ≡ true) where
   sound-terms no_trees names small none = tt
   sound-terms (more_trees t ts) names small none =
       let o = or_parts (is_large_term t) (list_any is_large_term (tree_list ts)) small in
-      let q = nil-append (term_faults sig t) (flat_map (term_faults sig) (tree_list ts)) none in
+      let q = both-empty (term_faults sig t) (flat_map (term_faults sig) (tree_list ts)) none in
       let few : nodes t ≤ MAX_TERM_NODES = ltb-false MAX_TERM_NODES (nodes t)
       (or_parts (nat_lt MAX_TERM_NODES (nodes t)) (has_large_default t) o.0).0 in
       (sound-term_of sig ordered MAX_TERM_NODES t names.0 q.0 few, sound-terms ts names.1 o.1 q.1)
@@ -152,7 +146,7 @@ module _ (sig : Sig) (ordered : all_in_order sig.ops ≡ true) where
   sound-edits (c ∷ cs) names fits small none indexes =
       let o = or_parts (list_any is_large_term (new_exprs c.terms))
       (list_any (λ c. list_any is_large_term (new_exprs c.terms)) cs) small in
-      let q = nil-append (new_term_faults sig c) (flat_map (new_term_faults sig) cs) none in (
+      let q = both-empty (new_term_faults sig c) (flat_map (new_term_faults sig) cs) none in (
         record {
           indexes = indexes.0;
           terms = new-sound c.terms names.1 o.0 q.0;
@@ -206,10 +200,10 @@ module _ (sig : Sig) (ordered : all_in_order sig.ops ≡ true) where
         let on = edit_faults_on sig cs (option_and_then (slice_get subjects) number) in
         let unknown = not (is_among name.text (subject_names earlier)) in
         let terms = flat_map (new_term_faults sig) cs in
-        let p = nil-append (fault_if (many || is_large_edit cs) TooMany name.place)
+        let p = both-empty (fault_if (many || is_large_edit cs) TooMany name.place)
         (fault_if unknown UnknownSubject name.place ++ (terms ++ on)) h in
-        let q = nil-append (fault_if unknown UnknownSubject name.place) (terms ++ on) p.1 in
-        let r = nil-append terms on q.1 in
+        let q = both-empty (fault_if unknown UnknownSubject name.place) (terms ++ on) p.1 in
+        let r = both-empty terms on q.1 in
         let o = or_parts many (is_large_edit cs) (nil-fault_if (many || is_large_edit cs) TooMany name.place p.0) in
         let size = or_parts (nat_lt MAX_EDITS (length cs))
         (list_any (λ c. list_any is_large_term (new_exprs c.terms)) cs) o.1 in
@@ -218,7 +212,7 @@ module _ (sig : Sig) (ordered : all_in_order sig.ops ≡ true) where
         let goal = target number refl known r.1 in
         let t = goal.subject.term in
         let few =
-        (at-all (IsSoundSubject sig) subjects (head_number number) goal.subject sound goal.held).term.few_nodes in
+        (all-get (IsSoundSubject sig) subjects (head_number number) goal.subject sound goal.held).term.few_nodes in
         let named : list_any (is_astray t) edits ≡ false = sym (is_some-position (is_astray t) edits)
         ∙ ap is_some (none_astray_at t edits _ (position (is_astray t) edits) refl goal.makes) in
         let indexes = small-indexes t (omega (arith, few)) edits named in (
@@ -272,7 +266,7 @@ module _ (sig : Sig) (ordered : all_in_order sig.ops ≡ true) where
   own earlier (RuleOf name p x c) read h i =
       record { subjects_hold = tt; edits_hold = tt; few = omega (arith, i.few) }
   own earlier (SubjectOf name t) read h i =
-      let q = nil-append (name_faults MAX_SUBJECTS (subject_names earlier) (is_large_term t) name)
+      let q = both-empty (name_faults MAX_SUBJECTS (subject_names earlier) (is_large_term t) name)
       (term_faults sig t) h in
       let small = (named-by MAX_SUBJECTS (subject_names earlier) (is_large_term t) name q.0).small in
       record {

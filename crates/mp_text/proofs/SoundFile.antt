@@ -6,6 +6,7 @@ use Rattle.std.specs.Prelude.{Result, Ok, Err, IfOk, option_map}
 use Rattle.std.proofs.lemmas.List.{length-map}
 use Rattle.std.proofs.lemmas.Bool.{or_parts}
 use Rattle.mp_term.specs.Signature.{Sig, all_in_order}
+use Rattle.mp_term.proofs.ListLaws.{both-empty}
 use Rattle.mp_pattern.specs.declared.limits.TheConstants.{MAX_DEPTH}
 use Rattle.mp_pattern.specs.Normal.{normal_pattern}
 use Rattle.mp_pattern.specs.SoundRule.{HasSoundCondition, HasSoundTemplate, IsSoundRule}
@@ -29,7 +30,6 @@ use Rattle.mp_text.specs.declared.file.File as code_file
 use Rattle.mp_text.specs.File.{FileTree, file_tree}
 use Rattle.mp_text.specs.Reading.{IsFileOf}
 use Rattle.mp_text.specs.Computed.{ReadGives}
-use Rattle.mp_build.proofs.Faultless.{nil-append}
 use Rattle.mp_build.proofs.Words.{is_name-IsName}
 use Rattle.mp_text.proofs.FileSteps.{names-rules_of, names-subjects_of}
 use Rattle.mp_build.proofs.SoundLaws.{sound-pattern}
@@ -71,11 +71,11 @@ module _ (sig : Sig) (ordered : all_in_order sig.ops ≡ true) where
   sound-rule name p x c read small none =
       let o = or_parts (is_large_pattern p) (has_large_template x || has_large_condition c) small in
       let l = or_parts (has_large_template x) (has_large_condition c) o.1 in
-      let q = nil-append (whole_pattern_faults sig p)
+      let q = both-empty (whole_pattern_faults sig p)
       (arrow_faults (pattern_variables p) sig x ++ if_faults sig (Some (pattern_variables p)) c) none in
-      let r = nil-append (arrow_faults (pattern_variables p) sig x)
+      let r = both-empty (arrow_faults (pattern_variables p) sig x)
       (if_faults sig (Some (pattern_variables p)) c) q.1 in
-      let free = (nil-append (loose_faults p) (pattern_faults sig [] p) q.0).1 in
+      let free = (both-empty (loose_faults p) (pattern_faults sig [] p) q.0).1 in
       record {
         name = is_name-IsName name.text read.names.0;
         pattern = sound-pattern sig ordered p read.names.1 o.0 q.0 read.fits.0;
@@ -89,9 +89,9 @@ pub sound-file : (ss : List Statement) → StatementsHaveNames ss → AreStateme
 sound-file ss names fit h =
     let sig = sig_of ss in
     let read = all-IsRead ss names fit in
-    let declared = nil-append (declaration_faults ss) (faults_by (statement_faults sig) [] ss) h in
+    let declared = both-empty (declaration_faults ss) (faults_by (statement_faults sig) [] ss) h in
     let none : faults_by (statement_faults sig) [] ss ≡ [] = declared.1 in
-    let parts = nil-append (faults_by op_statement_faults [] ss)
+    let parts = both-empty (faults_by op_statement_faults [] ss)
     (faults_by (kind_statement_faults (op_decls ss)) [] ss) declared.0 in
     let signature =
     (AreDeclaredKinds-kind_decls (op_decls ss) ss read parts.1

@@ -4,7 +4,7 @@ use Rattle.std.proofs.Common.{append_assoc, length-append, refl, sym, ap, subst,
 use Rattle.std.specs.List.{AllByRecursion}
 use Rattle.mp_term.specs.Signature.{Sig}
 use Rattle.mp_term.specs.Names.{are_distinct}
-use Rattle.mp_term.proofs.ListLaws.{all-append}
+use Rattle.mp_term.proofs.ListLaws.{all-append, both-empty}
 use Rattle.mp_pattern.specs.declared.limits.TheConstants.{MAX_RULES, MAX_SUBJECTS}
 use Rattle.mp_pattern.specs.Admission.{Rule}
 use Rattle.mp_parser.specs.declared.limits.TheConstants.{MAX_OPEN}
@@ -18,7 +18,6 @@ use Rattle.mp_text.specs.FileBuild.{rule_of, rules_of}
 use Rattle.mp_build.specs.Checks.{is_large_term, term_faults, name_faults, faults_by}
 use Rattle.mp_text.specs.FileChecks.{rule_faults, is_large_rule, statement_faults}
 use Rattle.mp_text.proofs.FileSteps.{rules_of-append, subjects_of-append}
-use Rattle.mp_build.proofs.Faultless.{nil-append}
 use Rattle.mp_build.proofs.SoundLaws.{are_distinct-push, named-by}
 
 -- ---- statement by statement
@@ -41,7 +40,7 @@ module _ (rule : List Statement → Statement → List TextFault) (I : List Stat
       → I earlier → I (earlier ++ ss)
   holds-behind earlier [] read h i = subst I (sym (append-nil earlier)) i
   holds-behind earlier (s ∷ ss) read h i =
-      let p = nil-append (rule earlier s) (faults_by rule (earlier ++ s ∷ []) ss) h in
+      let p = both-empty (rule earlier s) (faults_by rule (earlier ++ s ∷ []) ss) h in
       subst I (append_assoc earlier (s ∷ []) ss)
       (holds-behind (earlier ++ s ∷ []) ss read.1 p.1 (step earlier s read.0 p.0 i))
 
@@ -64,7 +63,7 @@ module _ (sig : Sig) (R : Rule → Type 0) (S : Subject → Type 0)
     hold-statement earlier (KindOf name members) read h = record { rules_hold = tt; subjects_hold = tt }
     hold-statement earlier (RuleOf name p x c) read h =
         let large = is_large_rule p x c in
-        let q = nil-append (name_faults MAX_RULES (rule_names earlier) large name) (rule_faults sig p x c) h in
+        let q = both-empty (name_faults MAX_RULES (rule_names earlier) large name) (rule_faults sig p x c) h in
         record {
           rules_hold = (
             rule-of name p x c read
@@ -74,7 +73,7 @@ module _ (sig : Sig) (R : Rule → Type 0) (S : Subject → Type 0)
           subjects_hold = tt;
         }
     hold-statement earlier (SubjectOf name t) read h =
-        let q = nil-append (name_faults MAX_SUBJECTS (subject_names earlier) (is_large_term t) name)
+        let q = both-empty (name_faults MAX_SUBJECTS (subject_names earlier) (is_large_term t) name)
         (term_faults sig t) h in
         record {
           rules_hold = tt;
@@ -153,7 +152,7 @@ module _ (sig : Sig) where
       by_sort (RuleOf name p x c) h =
           let large = is_large_rule p x c in
           let n = named-by MAX_RULES (rule_names earlier) large name
-          (nil-append (name_faults MAX_RULES (rule_names earlier) large name) (rule_faults sig p x c) h).0 in
+          (both-empty (name_faults MAX_RULES (rule_names earlier) large name) (rule_faults sig p x c) h).0 in
           good-push MAX_RULES (rule_names earlier) name.text g n.other n.few
       by_sort (SubjectOf name t) h = same
       by_sort (EditOf subject changes) h = same
@@ -173,7 +172,7 @@ module _ (sig : Sig) where
       by_sort (RuleOf name p x c) h = same
       by_sort (SubjectOf name t) h =
           let n = named-by MAX_SUBJECTS (subject_names earlier) (is_large_term t) name
-          (nil-append (name_faults MAX_SUBJECTS (subject_names earlier) (is_large_term t) name)
+          (both-empty (name_faults MAX_SUBJECTS (subject_names earlier) (is_large_term t) name)
           (term_faults sig t) h).0 in
           good-push MAX_SUBJECTS (subject_names earlier) name.text g n.other n.few
       by_sort (EditOf subject changes) h = same

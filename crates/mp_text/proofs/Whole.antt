@@ -23,9 +23,7 @@ use Rattle.mp_build.specs.SyntaxFaults.{syntax_fault, text_error}
 use Rattle.mp_build.specs.Answers.{IfText}
 use Rattle.mp_build.specs.Answers.{IsFaultOrMemory}
 use Rattle.mp_text.specs.Computed.{file_without, checked_file, file_of, fault_in, fault_of, ReadGives, IsComputed}
-
-some_same : {X : Type 0} (a b : X) → Some a ≡ Some b → a ≡ b
-some_same a b e = cc
+use Rattle.mp_term.proofs.ListLaws.{some-same}
 
 none_some : {X : Type 0} (a : X) → None ≡ Some a → ⊥
 none_some a e = cc
@@ -61,14 +59,14 @@ file_of-exact bytes f = (computed-of bytes f, λ h. computed-is bytes (syntax_of
 
 -- the bytes are one file
 same_file : (bytes : List ℕ) (f g : FileTree) → IsFileOf bytes f → IsFileOf bytes g → f ≡ g
-same_file bytes f g h k = some_same f g (sym (computed-of bytes f h) ∙ computed-of bytes g k)
+same_file bytes f g h k = some-same f g (sym (computed-of bytes f h) ∙ computed-of bytes g k)
 
 -- ---- faults
 
 -- what is computed is the fault
 fault-is : (bytes : List ℕ) (r : Result (List Statement) Fault) (t : TextFault) → reading bytes ≡ r
     → fault_in r ≡ Some t → IsFaultOf bytes t
-fault-is bytes (Err f) t e h = inl (f, reading-fault bytes f e, some_same t (syntax_fault f) (sym h))
+fault-is bytes (Err f) t e h = inl (f, reading-fault bytes f e, some-same t (syntax_fault f) (sym h))
 fault-is bytes (Ok ss) t e h = inr (ss, reading-found bytes ss e, h)
 
 -- the fault is the one that is computed
@@ -127,7 +125,7 @@ ReadGives-fault bytes (Err Memory) h = tt
 pub ReadGives-only_fault : (bytes : List ℕ) (r : Result code.File TextError) → ReadGives bytes r → (t : TextFault)
     → IsFaultOf bytes t → IsFaultOrMemory r (λ u. u ≡ t)
 ReadGives-only_fault bytes (Ok f) h t k = none_some t (sym (file-no_fault bytes (file_tree f) h) ∙ fault-of bytes t k)
-ReadGives-only_fault bytes (Err (Text u)) h t k = some_same u t (sym h ∙ fault-of bytes t k)
+ReadGives-only_fault bytes (Err (Text u)) h t k = some-same u t (sym h ∙ fault-of bytes t k)
 ReadGives-only_fault bytes (Err Memory) h t k = tt
 
 -- the answer is the one that is computed

@@ -8,6 +8,7 @@ use Rattle.mp_pattern.specs.Value.{Form, one_form, seq_form, bag_form, Subst, va
 use Rattle.mp_pattern.specs.Firsts.{is_known, add_new, firsts_after}
 use Rattle.mp_pattern.specs.Variables.{uses, variables, form_among, variable_form, IsSubstOf}
 use Rattle.mp_pattern.proofs.NameLaws.{same_name-itself}
+use Rattle.mp_pattern.proofs.UsedNameLaws.{is_known-more}
 use Rattle.mp_theory.specs.Solve.{Taken, solve}
 use Rattle.mp_theory.proofs.Merging.{Extends}
 use Rattle.mp_theory.proofs.SolveLaws.{Obeys, solve-complete}
@@ -19,12 +20,6 @@ use Rattle.mp_theory.proofs.Solving.{solution}
 
 -- firsts that are taken again add nothing
 module _ {X : Type 0} (same : X → X → Bool) (itself : (x : X) → same x x ≡ true) where
-  known-front : (ys zs : List X) (x : X) → is_known same ys x ≡ true → is_known same (ys ++ zs) x ≡ true
-  known-front [] zs x h = cc
-  known-front (y ∷ ys) zs x h =
-      elim (same y x) as (λ b. (b || is_known same ys x) ≡ true → (b || is_known same (ys ++ zs) x) ≡ true)
-      [ true ↦ λ k. refl | false ↦ λ k. known-front ys zs x k ] h
-
   known-last : (ys : List X) (x : X) → is_known same (ys ++ x ∷ []) x ≡ true
   known-last [] x = ap (λ b. b || false) (itself x)
   known-last (y ∷ ys) x = elim (same y x) as (λ b. (b || is_known same (ys ++ x ∷ []) x) ≡ true)
@@ -38,7 +33,7 @@ module _ {X : Type 0} (same : X → X → Bool) (itself : (x : X) → same x x �
 
   known-kept : (ys : List X) (y x : X) → is_known same ys x ≡ true → is_known same (add_new same ys y) x ≡ true
   known-kept ys y x h = elim (is_known same ys y) as (λ b. is_known same (if b then ys else ys ++ (y ∷ [])) x ≡ true)
-      [ true ↦ h | false ↦ known-front ys (y ∷ []) x h ]
+      [ true ↦ h | false ↦ is_known-more same ys (y ∷ []) x h ]
 
   known-firsts : (ys xs : List X) (x : X) → is_known same ys x ≡ true
       → is_known same (firsts_after same ys xs) x ≡ true

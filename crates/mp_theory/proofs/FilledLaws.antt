@@ -129,7 +129,7 @@ then-itself None = refl
 then-itself (Some s) = refl
 
 -- what a test that was passed let through
-from_then : (b : Bool) (o : Option Subst) (r : Subst) → (if b then o else None) ≡ Some r → o ≡ Some r
+pub from_then : (b : Bool) (o : Option Subst) (r : Subst) → (if b then o else None) ≡ Some r → o ≡ Some r
 from_then true o r e = e
 from_then false o r e = cc
 

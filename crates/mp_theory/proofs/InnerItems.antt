@@ -1,5 +1,5 @@
 -- Where syntactic patterns come next they take a term each, in one way at most, and the items go on behind that.
-use Rattle.std.proofs.Common.{◌≡◌, ◌≤◌, ℕ, zero, suc, ◌+◌, List, [], ◌∷◌, ◌++◌, map, Bool, true, false, ◌&&◌, not, refl}
+use Rattle.std.proofs.Common.{◌≡◌, ℕ, zero, suc, ◌+◌, List, [], ◌∷◌, ◌++◌, map, Bool, true, false, ◌&&◌, not, refl}
 use Rattle.std.proofs.Common.{ap, sym, ◌∙◌, arith, append-nil, append_assoc}
 use Rattle.std.specs.Prelude.{Option, Some, None, filter, flat_map, option_and_then, if◌then◌else◌, nat_eq}
 use Rattle.std.proofs.lemmas.Bool.{and_parts}
@@ -15,6 +15,7 @@ use Rattle.mp_pattern.specs.PatternTree.{app_pattern, wild_pattern, Patterns, no
 use Rattle.mp_pattern.specs.Size.{pattern_nodes, all_pattern_nodes}
 use Rattle.mp_pattern.specs.Syntactic.{is_plain, is_syntactic, all_syntactic}
 use Rattle.mp_pattern.specs.Value.{one, Subst, same_name}
+use Rattle.mp_pattern.proofs.OnePattern.{has_nodes}
 use Rattle.mp_theory.specs.Filled.{filled, all_filled}
 use Rattle.mp_theory.specs.Frames.{Frame, refused, child, settle}
 use Rattle.mp_theory.specs.Items.{items, items_by, behind}
@@ -64,7 +65,7 @@ in_front-append T U (i ∷ is) = ap (λ V. (V, i.1) ∷ map (in_front T) (map (i
     ∙ ap (λ js. ((T ++ U) ++ i.0, i.1) ∷ js) (in_front-append T U is)
 
 -- a child that takes a term owes what was owed
-not-left_out : (p : Pattern) (t : Tree) (ts : List Tree) → is_left_out p (t ∷ ts) ≡ false
+pub not-left_out : (p : Pattern) (t : Tree) (ts : List Tree) → is_left_out p (t ∷ ts) ≡ false
 not-left_out (symbol_pattern n) t ts = refl
 not-left_out (app_pattern g ps) t ts = refl
 not-left_out (wild_pattern dot x) t ts = refl
@@ -95,11 +96,6 @@ taken-term p t c f =
       left = without tree_cmp (t ∷ []) f.left;
       owes = b;
     }) (owed-still f.owes p t)
-
-pub some_nodes : (p : Pattern) → 1 ≤ pattern_nodes p
-some_nodes (symbol_pattern n) = omega arith
-some_nodes (app_pattern g ps) = omega arith
-some_nodes (wild_pattern w x) = omega arith
 
 module _ (sig : Sig) where
   -- what goes on behind the table of a pattern that has the shape
@@ -254,7 +250,7 @@ module _ (sig : Sig) where
         ap (λ n. items sig n (settle fs) s) n ∙ sym (in_front-none (items sig k (settle fs) s))
     children-items g no_patterns (more_trees t ts) true fs m k s h i e = refused-none m s
     children-items g no_patterns (more_trees t ts) false fs m k s h i e = refused-none m s
-    children-items g (more_patterns p ps) ts owes fs zero k s h i e = absurd (omega (arith, e, some_nodes p))
+    children-items g (more_patterns p ps) ts owes fs zero k s h i e = absurd (omega (arith, e, has_nodes p))
     children-items g (more_patterns p ps) no_trees owes fs (suc j) k s h i e =
         let b = and_parts (is_syntactic sig p) (all_syntactic sig ps) i in
         let f : Frame = record { under = Some g; children = ps; left = []; owes = owes } in

@@ -44,7 +44,7 @@ length-all_nodes (symbol n ∷ ts) = omega (arith, length-all_nodes ts)
 length-all_nodes (app g us ∷ ts) = omega (arith, length-all_nodes ts)
 
 -- the arguments of a term have fewer nodes than the term
-all_nodes-arguments : (l : List Tree) → all_nodes (arguments l) ≤ all_nodes l
+pub all_nodes-arguments : (l : List Tree) → all_nodes (arguments l) ≤ all_nodes l
 all_nodes-arguments [] = omega arith
 all_nodes-arguments (symbol n ∷ []) = omega arith
 all_nodes-arguments (app g ts ∷ []) = rw (trees-tree_list ts) (omega arith)

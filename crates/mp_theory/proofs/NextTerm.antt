@@ -56,7 +56,7 @@ symbols-same m n =
     ] refl
 
 -- nothing is a member of an empty list alone
-none-in : {X : Type 0} (xs : List X) → ((x : X) → In x xs → ⊥) → xs ≡ []
+pub none-in : {X : Type 0} (xs : List X) → ((x : X) → In x xs → ⊥) → xs ≡ []
 none-in [] h = refl
 none-in (x ∷ xs) h = absurd (h x (inl refl))
 

@@ -35,11 +35,7 @@ use Rattle.mp_theory.proofs.Wildcards.{contributor-contributes, takes-given}
 use Rattle.mp_theory.proofs.Solving.{then_some}
 use Rattle.mp_theory.proofs.Bounds.{AtMost, at_most-sum, IsWithin, within, within-tested}
 use Rattle.mp_theory.proofs.CursorLaws.{pruned}
-
--- a list without members
-none_in : {X : Type 0} (xs : List X) → ((x : X) → In x xs → ⊥) → xs ≡ []
-none_in [] h = refl
-none_in (x ∷ xs) h = absurd (h x (inl refl))
+use Rattle.mp_theory.proofs.NextTerm.{none-in}
 
 module _ (sig : Sig) where
   -- what is left to the frame is within the bounds of its children
@@ -122,7 +118,7 @@ module _ (sig : Sig) where
       → solutions sig k n s ≡ []
   solutions-none k n s h =
       solutions-is sig k n s ∙ ap (filter_map (λ T. solve sig s (takes n T)))
-      (none_in (words (choices sig) onward is_ended k n)
+      (none-in (words (choices sig) onward is_ended k n)
       (λ T i. h T (words-sound (choices sig) onward is_ended k n T i).1))
 
   -- so a choice after which a frame is out of its bounds may be left out
@@ -141,7 +137,7 @@ module _ (sig : Sig) where
   derivations-none k n T s h =
       derivations-is sig k n T s
       ∙ ap (filter_map (λ W. option_map (λ r. (T ++ W, r)) (solve sig s (takes n W))))
-      (none_in (words (choices sig) onward is_ended k n)
+      (none-in (words (choices sig) onward is_ended k n)
       (λ W i. h W (words-sound (choices sig) onward is_ended k n W i).1))
 
   -- a choice that leaves the later children too few terms or too many leads nowhere

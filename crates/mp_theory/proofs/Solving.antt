@@ -11,7 +11,7 @@ use Rattle.mp_pattern.specs.Value.{Value, one, seq, bag, Form, one_form, seq_for
 use Rattle.mp_pattern.specs.Value.{Binding, value_of, same_name, merge}
 use Rattle.mp_pattern.specs.Firsts.{is_known, add_new, firsts_after}
 use Rattle.mp_pattern.specs.Variables.{Use, uses, variables, comm_above, form_among, variable_form, IsSubstOf}
-use Rattle.mp_pattern.proofs.NameLaws.{same_name-is, same_name-itself}
+use Rattle.mp_pattern.proofs.NameLaws.{same_name-is, same_name-itself, same_name-swap}
 use Rattle.mp_theory.specs.Solve.{Taken, bind, given, solve, sequence}
 use Rattle.mp_theory.proofs.Merging.{Refines, IsArranged, Extends, AllArranged, bind-sound, from_if, if_either, mapped}
 use Rattle.mp_theory.proofs.SolveLaws.{Obeys, solve-complete}
@@ -21,18 +21,6 @@ use Rattle.mp_theory.proofs.Wildcards.{contributor-contributes, refines-itself}
 -- the names of a substitution
 abbrev pub names : Subst → List (List ℕ)
 names s = map (λ b. b.name) s
-
--- the test of names is symmetric
-same_name-swap : (x y : List ℕ) → same_name x y ≡ same_name y x
-same_name-swap x y =
-    elim (same_name x y) as (λ b. same_name x y ≡ b → b ≡ same_name y x) [
-      | true ↦ λ e. sym (subst (λ z. same_name y z ≡ true) (sym (same_name-is x y e)) (same_name-itself y))
-      | false ↦ λ e.
-          elim (same_name y x) as (λ c. same_name y x ≡ c → false ≡ c) [
-            | true ↦ λ q. sym e ∙ subst (λ z. same_name x z ≡ true) (sym (same_name-is y x q)) (same_name-itself x)
-            | false ↦ λ q. refl
-          ] refl
-    ] refl
 
 -- what a chain of two options gave
 pub then_some : {A B : Type 0} (f : A → Option B) (o : Option A) (r : B) → option_and_then f o ≡ Some r

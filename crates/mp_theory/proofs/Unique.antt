@@ -34,7 +34,7 @@ same_entry d e h =
     let m : d.collapsed ≡ e.collapsed = same_mark d.collapsed e.collapsed k.1 in
     ap (λ l. record { terms = l; collapsed = d.collapsed }) t ∙ ap (λ b. record { terms = e.terms; collapsed = b }) m
 
-same_table : (T U : Table) → table_cmp T U ≡ Equal → T ≡ U
+pub same_table : (T U : Table) → table_cmp T U ≡ Equal → T ≡ U
 same_table [] [] h = refl
 same_table [] (e ∷ U) h = cc
 same_table (d ∷ T) [] h = cc

@@ -1,8 +1,9 @@
 -- The entries of resume tokens.
-use Rattle.std.specs.Prelude.{ℕ, ◌<◌, ◌^◌, Bool, List, refl}
+use Rattle.std.specs.Prelude.{◌<◌, ◌^◌, Bool, List}
 use Rattle.std.specs.List.{AllByRecursion}
-use Rattle.std.specs.Coded.{Coded, code_by, coded×, coded_bool, coded_list, coded_ℕ}
+use Rattle.std.specs.Coded.{Coded, coded×, coded_bool, coded_list}
 use Rattle.mp_table.specs.declared.rank.Rank.{Rank}
+use Rattle.mp_table.specs.TableCode.{coded_rank}
 
 -- the ranks of the terms of an entry, and whether it is collapsed
 abbrev pub Entry : Type 0
@@ -15,10 +16,6 @@ IsRank r = r.0 < 2 ^ 32
 -- the ranks of an entry are ranks
 abbrev pub IsEntry : Entry → Type 0
 IsEntry e = AllByRecursion IsRank e.0
-
--- a rank as its number: by this, a proof tells ranks apart
-abbrev pub coded_rank : Coded Rank
-coded_rank = code_by ℕ coded_ℕ (λ r. r.0) (λ n. record { 0 = n }) (λ _. refl)
 
 -- an entry as the pair of its ranks and its mark
 abbrev pub coded_entry : Coded Entry

@@ -5,8 +5,8 @@ use Rattle.std.specs.Prelude.{◌≢◌, ◌⊎◌, Result, Ok, Err, IfOk, IfErr
 use Rattle.std.proofs.lemmas.Bool.{cases_lt}
 use Rattle.mp_io.specs.Devices.{Text}
 use Rattle.mp_term.specs.Signature.{Sig}
+use Rattle.mp_term.proofs.ListLaws.{both-empty}
 use Rattle.mp_pattern.specs.declared.limits.TheConstants.{MAX_VARIABLES}
-use Rattle.mp_build.proofs.Faultless.{nil-append}
 use Rattle.mp_program.specs.declared.fault.ProgramError.{ProgramError}
 use Rattle.mp_program.specs.declared.fault.ProgramError.TheVariants.{WrongVersion, BadLine, BackwardTarget}
 use Rattle.mp_program.specs.declared.fault.ProgramError.TheVariants.{BadReference, Unbalanced, Memory}
@@ -202,7 +202,7 @@ module _ (sig : Sig) (bytes : Text) where
   pub whole-rules : (most : ℕ) → MAX_VARIABLES ≤ most → (f : Form) → faults_before f ≡ []
       → map (kept_line most) f.rules ≡ f.rules
   whole-rules most enough f none =
-      let a = nil-append (faults_of_declarations sig f) _ none in
-      let b = nil-append (faults_of_tests sig f) _ a.1 in
-      let c = nil-append (faults_of_rules sig f) _ b.1 in
+      let a = both-empty (faults_of_declarations sig f) _ none in
+      let b = both-empty (faults_of_tests sig f) _ a.1 in
+      let c = both-empty (faults_of_rules sig f) _ b.1 in
       kept-whole most (length f.tests) enough [] (first_rule_line f) f.rules c.0

@@ -11,6 +11,7 @@ use Rattle.std.proofs.lemmas.List.{length-map, reverse-append}
 use Rattle.mp_term.specs.Listing.{In}
 use Rattle.mp_term.proofs.SearchLaws.{in-left, in-right}
 use Rattle.mp_term.specs.Signature.{Sig}
+use Rattle.mp_term.proofs.ListLaws.{drop-at}
 use Rattle.mp_pattern.specs.CondTree.{Cond}
 use Rattle.mp_pattern.specs.NetTokens.{NetToken}
 use Rattle.mp_walk.specs.Instrs.{Instr, instr_at, targets}
@@ -39,7 +40,6 @@ use Rattle.mp_vm.specs.declared.look.Look.{Look}
 use Rattle.mp_vm.specs.declared.needs.Needs.{Needs}
 use Rattle.mp_vm.specs.declared.ways.Way.{Way}
 use Rattle.mp_vm.specs.declared.ways.Way.TheVariants.{Unknown, One, Several}
-use Rattle.mp_vm.proofs.NameChecks.{rest-at}
 use Rattle.mp_vm.proofs.CheckedLaws.{first_fault-before, checks-passed}
 use Rattle.mp_vm.proofs.LeadLaws.{befores-append}
 use Rattle.mp_vm.proofs.NeedLaws.{meets-all}
@@ -323,7 +323,7 @@ module _ (tests : List Cond) (rules : List ProgramRule) (s : Setting) (line done
       ++ code_faults s.sig.now s.most tests rules (suc (length (setting_code tests rules s))) (suc (suc (line + done)))
       (suc (suc done)) (leads_after ls (suc done) i) (drop (suc done) (setting_code tests rules s))
   behind-split i at = ap (code_faults s.sig.now s.most tests rules (suc (length (setting_code tests rules s)))
-      (suc (line + done)) (suc done) ls) (rest-at (setting_code tests rules s) done i at
+      (suc (line + done)) (suc done) ls) (drop-at (setting_code tests rules s) done i at
       ∙ ap (λ k. i ∷ drop k (setting_code tests rules s)) (add-one done))
 
   -- where it has none, those of the others are left

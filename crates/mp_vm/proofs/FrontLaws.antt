@@ -5,10 +5,9 @@ use Rattle.std.specs.Prelude.{◌≢◌, Option, None, codes, decimal}
 use Rattle.std.specs.List.{AllByRecursion}
 use Rattle.mp_io.specs.Devices.{Text}
 use Rattle.mp_term.specs.Signature.{Sig}
-use Rattle.mp_term.proofs.ListLaws.{all-split}
+use Rattle.mp_term.proofs.ListLaws.{all-split, both-empty}
 use Rattle.mp_pattern.specs.CondTree as cond
 use Rattle.mp_walk.specs.Instrs.{Instr}
-use Rattle.mp_build.proofs.Faultless.{nil-append}
 use Rattle.mp_program.specs.declared.format.Format.{Format}
 use Rattle.mp_program.specs.Form.{format_number, RuleLine, Form}
 use Rattle.mp_program.specs.FormText as text
@@ -215,7 +214,7 @@ module _ (sig : Sig) where
         (sym (append-nil (instr_lines sig 1 f.code)) ∙ sym e ∙ sym (append-nil (d ∷ u))))
     by_code d u r (beyond (s ∷ y) e k) =
         let same = first-same stop_text s [] (y ++ r) k in
-        let none = (nil-append y r (sym (rest-same stop_text s [] (y ++ r) k))).0 in
+        let none = (both-empty y r (sym (rest-same stop_text s [] (y ++ r) k))).0 in
         let all = e ∙ ap (λ l. instr_lines sig 1 f.code ++ l)
         (ap (λ w. w ∷ y) (sym same) ∙ ap (λ l. stop_text ∷ l) none) in
         code-state Stop f.begin f.code (codes "code" ∷ begin_text f.begin ∷ (d ∷ u)) tt (record {

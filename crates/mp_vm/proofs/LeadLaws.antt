@@ -9,12 +9,11 @@ use Rattle.std.proofs.lemmas.Bool.{or_parts, not-false, eq-eqb, ne_eqb, leb-fals
 use Rattle.std.proofs.lemmas.List.{map-append, append-nil, append_assoc}
 use Rattle.mp_term.specs.Listing.{In}
 use Rattle.mp_term.specs.Signature.{Sig}
-use Rattle.mp_term.proofs.ListLaws.{all-append}
+use Rattle.mp_term.proofs.ListLaws.{all-append, both-empty}
 use Rattle.mp_term.proofs.ListingLaws.{all_in}
 use Rattle.mp_term.proofs.SearchLaws.{in-left, in-right, in-map, from_in-map, in-filter, from_in-filter}
 use Rattle.mp_pattern.specs.CondTree.{Cond}
 use Rattle.mp_ac.specs.CommItems.{NoneTwice}
-use Rattle.mp_build.proofs.Faultless.{nil-append}
 use Rattle.mp_walk.specs.Instrs.{Instr, targets}
 use Rattle.mp_walk.specs.Walkable.{Path}
 use Rattle.mp_program.specs.declared.fault.ProgramError.{ProgramError}
@@ -35,7 +34,7 @@ any-none p (y ∷ xs) h x (inr i) = any-none p xs (or_parts (p y) _ h).1 x i
 pub target-bounds : (stop line n : ℕ) (ts : List ℕ) → target_faults stop line n ts ≡ [] → (t : ℕ) → In t ts
     → (n < t) × (t < stop)
 target-bounds stop line n ts h t i =
-    let p = nil-append (fault_if (list_any (λ u. nat_le u n) ts) _) (fault_if (list_any (nat_le stop) ts) _) h in (
+    let p = both-empty (fault_if (list_any (λ u. nat_le u n) ts) _) (fault_if (list_any (nat_le stop) ts) _) h in (
       leb-false t n (any-none (λ u. nat_le u n) ts (nil-fault_if _ _ p.0) t i),
       leb-false stop t (any-none (nat_le stop) ts (nil-fault_if _ _ p.1) t i),
     )
@@ -106,7 +105,7 @@ module _ (sig : Sig) (most : ℕ) (tests : List Cond) (rules : List ProgramRule)
       → target_faults stop line n (targets i) ++ way_faults sig most tests rules stop line (befores ls n) i ≡ []
       → IsLed ls n i
   led-here line n ls i h =
-      let p = nil-append (target_faults stop line n (targets i)) _ h in
+      let p = both-empty (target_faults stop line n (targets i)) _ h in
       by_ways (befores ls n) refl p.1 (target-bounds stop line n (targets i) p.0)
     where
       by_ways : (bs : List Path) → befores ls n ≡ bs → way_faults sig most tests rules stop line bs i ≡ []
@@ -115,7 +114,7 @@ module _ (sig : Sig) (most : ℕ) (tests : List Cond) (rules : List ProgramRule)
       by_ways (b ∷ c ∷ bs) e k bounds = cc
       by_ways (b ∷ []) e k bounds =
           let ks = b ++ i.token ∷ [] in
-          let q = nil-append (fault_if (not (is_right_path sig most ks)
+          let q = both-empty (fault_if (not (is_right_path sig most ks)
           || not (list_all (may_accept tests rules ks) i.accepts)) _) _ k in
           let r = or_parts (not (is_right_path sig most ks)) (not (list_all (may_accept tests rules ks) i.accepts))
           (nil-fault_if _ _ q.0) in
@@ -132,7 +131,7 @@ module _ (sig : Sig) (most : ℕ) (tests : List Cond) (rules : List ProgramRule)
   first-led : (line n : ℕ) (ls : List Lead) (i : Instr) (is : List Instr) → faults line n ls (i ∷ is) ≡ []
       → IsLed ls n i × (faults (suc line) (suc n) (leads_after ls n i) is ≡ [])
   first-led line n ls i is h =
-      let p = nil-append (target_faults stop line n (targets i)
+      let p = both-empty (target_faults stop line n (targets i)
       ++ way_faults sig most tests rules stop line (befores ls n) i) _ h in
       (led-here line n ls i p.0, p.1)
 

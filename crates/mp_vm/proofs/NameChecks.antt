@@ -1,22 +1,17 @@
 -- Names that stand among others.
 use Rattle.std.proofs.Common.{◌≡◌, ◌<◌, ◌+◌, ℕ, Bool, true, false, List, [], ◌∷◌, length, get_or, drop, Some, None}
-use Rattle.std.proofs.Common.{map, sym, ap, ◌∙◌, refl}
+use Rattle.std.proofs.Common.{sym, ap, ◌∙◌, refl}
 use Rattle.std.specs.Prelude.{not, ◌||◌, ◌&&◌, bytes_eq, slice_get}
-use Rattle.std.specs.List.{list_any, list_all}
+use Rattle.std.specs.List.{list_all}
 use Rattle.std.proofs.lemmas.Map.Text.{is_eq-slice_cmp}
-use Rattle.std.proofs.lemmas.Option.{slice_get_within, slice_get-get_or, get_or_from_slice_get}
+use Rattle.std.proofs.lemmas.Option.{slice_get-get_or}
 use Rattle.mp_io.specs.Devices.{Text}
 use Rattle.mp_term.specs.Names.{are_distinct}
-use Rattle.mp_term.proofs.ListLaws.{drop-item}
+use Rattle.mp_term.proofs.ListLaws.{drop-at}
 use Rattle.mp_pattern.specs.Firsts.{is_known}
 use Rattle.mp_pattern.specs.Value.{same_name}
 
 -- ---- the item at an index
-
--- the items from there on
-pub rest-at : {X : Type 0} (xs : List X) (i : ℕ) (x : X) → slice_get xs i ≡ Some x → drop i xs ≡ x ∷ drop (i + 1) xs
-rest-at xs i x at =
-    drop-item xs i x (slice_get_within xs i x at) (sym (get_or_from_slice_get xs i x x at))
 
 -- it isn't lacking below the length
 pub item-there : (xs : List Text) (i : ℕ) → i < length xs → slice_get xs i ≡ None → ⊥
@@ -40,29 +35,22 @@ distinct-known (y ∷ xs) x =
 module _ (xs : List Text) (i : ℕ) (x : Text) (at : slice_get xs i ≡ Some x) where
   -- it is the name
   pub known-here : (y : Text) → same_name x y ≡ true → is_known same_name (drop i xs) y ≡ true
-  known-here y same = ap (λ l. is_known same_name l y) (rest-at xs i x at)
+  known-here y same = ap (λ l. is_known same_name l y) (drop-at xs i x at)
       ∙ ap (λ b. b || is_known same_name (drop (i + 1) xs) y) same
 
   -- it is another
   pub known-behind : (y : Text) → same_name x y ≡ false
       → is_known same_name (drop (i + 1) xs) y ≡ is_known same_name (drop i xs) y
-  known-behind y other = sym (ap (λ l. is_known same_name l y) (rest-at xs i x at)
+  known-behind y other = sym (ap (λ l. is_known same_name l y) (drop-at xs i x at)
       ∙ ap (λ b. b || is_known same_name (drop (i + 1) xs) y) other)
 
   -- it stands there again
   pub distinct-again : is_known same_name (drop (i + 1) xs) x ≡ true → are_distinct (drop i xs) ≡ false
-  distinct-again known = ap are_distinct (rest-at xs i x at)
+  distinct-again known = ap are_distinct (drop-at xs i x at)
       ∙ ap (λ b. b && are_distinct (drop (i + 1) xs)) (distinct-known (drop (i + 1) xs) x ∙ ap not known)
 
   -- it doesn't
   pub distinct-behind : is_known same_name (drop (i + 1) xs) x ≡ false
       → are_distinct (drop (i + 1) xs) ≡ are_distinct (drop i xs)
-  distinct-behind unknown = sym (ap are_distinct (rest-at xs i x at)
+  distinct-behind unknown = sym (ap are_distinct (drop-at xs i x at)
       ∙ ap (λ b. b && are_distinct (drop (i + 1) xs)) (distinct-known (drop (i + 1) xs) x ∙ ap not unknown))
-
--- ---- tests of parts
-
-pub list_any-map : {X Y : Type 0} (p : X → Bool) (f : Y → X) (ys : List Y)
-    → list_any p (map f ys) ≡ list_any (λ y. p (f y)) ys
-list_any-map p f [] = refl
-list_any-map p f (y ∷ ys) = ap (λ b. p (f y) || b) (list_any-map p f ys)

@@ -11,13 +11,12 @@ use Rattle.std.proofs.lemmas.List.{append_cancel_left, length-map, take_all}
 use Rattle.std.proofs.Math.Seq.{take-append_seam}
 use Rattle.mp_io.specs.Devices.{Text}
 use Rattle.mp_term.specs.Signature.{Sig}
-use Rattle.mp_term.proofs.ListLaws.{all-split}
+use Rattle.mp_term.proofs.ListLaws.{all-split, both-empty}
 use Rattle.mp_pattern.specs.declared.limits.TheConstants.{MAX_VARIABLES}
 use Rattle.mp_pattern.specs.CondTree.{Cond}
 use Rattle.mp_pattern.specs.Firsts.{firsts_after}
 use Rattle.mp_walk.specs.Instrs.{Instr}
 use Rattle.mp_print.specs.PrintedSignature.{signature_text}
-use Rattle.mp_build.proofs.Faultless.{nil-append}
 use Rattle.mp_program.specs.declared.fault.ProgramError.{ProgramError}
 use Rattle.mp_program.specs.declared.format.Format.{Format}
 use Rattle.mp_program.specs.declared.format.Format.TheVariants.{One, Two}
@@ -160,7 +159,7 @@ pub kept-whole : (most count : ℕ) → MAX_VARIABLES ≤ most → (before : Lis
     → faults_along (rule_faults count) before n rs ≡ [] → map (kept_line most) rs ≡ rs
 kept-whole most count enough before n [] h = refl
 kept-whole most count enough before n (r ∷ rs) h =
-    let parts = nil-append (rule_faults count before n r) _ h in
+    let parts = both-empty (rule_faults count before n r) _ h in
     let few = ltb-false MAX_VARIABLES (length r.vars) (fine-rule count before n r parts.0).names.few in
     let one : kept_line most r ≡ r = ap (λ vars. record { name = r.name; vars = vars; test = r.test })
     (take_all most r.vars (omega (arith, few))) in

@@ -7,9 +7,9 @@ use Rattle.std.proofs.lemmas.Fmt.{decimal_injective}
 use Rattle.std.proofs.lemmas.List.{append_cancel_left, length-map, map-append}
 use Rattle.mp_io.specs.Devices.{Text}
 use Rattle.mp_term.specs.Signature.{Sig}
+use Rattle.mp_term.proofs.ListLaws.{both-empty}
 use Rattle.mp_pattern.specs.CondTree as cond
 use Rattle.mp_walk.specs.Instrs.{Instr}
-use Rattle.mp_build.proofs.Faultless.{nil-append}
 use Rattle.mp_program.specs.declared.format.Format.{Format}
 use Rattle.mp_program.specs.declared.format.Format.TheVariants.{One, Two}
 use Rattle.mp_program.specs.Form.{format_number, RuleLine, Form}
@@ -225,11 +225,11 @@ module _ (sig : Sig) (most : ℕ) where
           let first = codes "matchpy program " ++ decimal (format_number format) in
           let rest = f.ops ++ (f.kinds ++ (tests ++ (rules ++ begun))) in
           let none = rest-same own first rest [] k.lines in
-          let behind-ops = (nil-append f.ops (f.kinds ++ (tests ++ (rules ++ begun))) none).1 in
-          let behind-kinds = (nil-append f.kinds (tests ++ (rules ++ begun)) behind-ops).1 in
-          let behind-tests = (nil-append tests (rules ++ begun) behind-kinds).1 in
+          let behind-ops = (both-empty f.ops (f.kinds ++ (tests ++ (rules ++ begun))) none).1 in
+          let behind-kinds = (both-empty f.kinds (tests ++ (rules ++ begun)) behind-ops).1 in
+          let behind-tests = (both-empty tests (rules ++ begun) behind-kinds).1 in
           first-stage z.stage f format k.is (same-format f.format format (first-same own first rest [] k.lines))
-          (nil-append f.ops _ none).0 (nil-append f.kinds _ behind-ops).0
-          (map-nil (text.test_line sig) f.tests (nil-append tests _ behind-kinds).0)
-          (map-nil (text.rule_line sig) f.rules (nil-append rules _ behind-tests).0)
-          (nil-append rules begun behind-tests).1
+          (both-empty f.ops _ none).0 (both-empty f.kinds _ behind-ops).0
+          (map-nil (text.test_line sig) f.tests (both-empty tests _ behind-kinds).0)
+          (map-nil (text.rule_line sig) f.rules (both-empty rules _ behind-tests).0)
+          (both-empty rules begun behind-tests).1

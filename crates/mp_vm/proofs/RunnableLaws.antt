@@ -9,8 +9,8 @@ use Rattle.std.proofs.lemmas.Bool.{or_parts}
 use Rattle.mp_io.specs.Devices.{Text}
 use Rattle.mp_term.specs.Listing.{In}
 use Rattle.mp_term.specs.Signature.{Sig}
-use Rattle.mp_term.proofs.ListLaws.{all-also, all-append}
-use Rattle.mp_term.proofs.ListingLaws.{all_in}
+use Rattle.mp_term.proofs.ListLaws.{all-also, all-append, both-empty}
+use Rattle.mp_term.proofs.ListingLaws.{all_in, place-in}
 use Rattle.mp_term.proofs.SearchLaws.{from_in-append, from_in-flat}
 use Rattle.mp_pattern.specs.CondTree.{Cond}
 use Rattle.mp_pattern.specs.declared.limits.TheConstants.{MAX_PATTERN_NODES, MAX_VARIABLES}
@@ -25,7 +25,7 @@ use Rattle.mp_build.specs.Checks as checks
 use Rattle.mp_build.specs.Checks.{nodes, has_large_default, is_large_pattern, whole_pattern_faults}
 use Rattle.mp_build.specs.ConditionChecks.{is_large_condition, condition_faults}
 use Rattle.mp_build.specs.Scope.{variable_names}
-use Rattle.mp_build.proofs.Faultless.{nil-append, nil-fault_if}
+use Rattle.mp_build.proofs.Faultless.{nil-fault_if}
 use Rattle.mp_walk.specs.CodeForest.{code_forest}
 use Rattle.mp_walk.specs.Forests.{lists}
 use Rattle.mp_walk.specs.Instrs.{Instr, accepts_at, instr_at, targets}
@@ -45,7 +45,7 @@ use Rattle.mp_program.specs.Reading.{IsValid}
 use Rattle.mp_program.specs.RightForm.{IsRightWildcard, IsRightToken, IsRightAction, IsRightInstr, IsRightCond}
 use Rattle.mp_program.specs.RightForm.{IsRightTest, IsRightRuleTest, IsRightRule, IsRightForm}
 use Rattle.mp_program.specs.TokenPaths.{is_right_path, open_along, is_balanced, may_accept}
-use Rattle.mp_program.proofs.ListLaws.{list_all-in, place-in}
+use Rattle.mp_program.proofs.ListLaws.{list_all-in}
 use Rattle.mp_vm.specs.Runnable.{EachOfToken, HasSmallOperands, IsRunnable}
 use Rattle.mp_vm.proofs.Decoded.{LeavesOpen, leaves-open}
 use Rattle.mp_vm.proofs.LeadLaws.{all_leads, target-bounds, IsPlaced, placed, stable, all_leads-to, good-leads}
@@ -129,7 +129,7 @@ small-token sig format (wild_token w x) h = by_wildcard w h.0
     by_wildcard (optional t) h = h.1
 small-token sig format (comm_token p) h =
     let t = h.read.syntax_tree in
-    let f = nil-append (checks.fault_if (is_large_pattern t) _ (start t)) (whole_pattern_faults sig t)
+    let f = both-empty (checks.fault_if (is_large_pattern t) _ (start t)) (whole_pattern_faults sig t)
     h.read.faultless in
     let a = or_parts (nat_lt MAX_PATTERN_NODES (nodes t)) _ (nil-fault_if (is_large_pattern t) _ (start t) f.0) in
     let b = or_parts (nat_lt MAX_VARIABLES (length (variable_names t))) (has_large_default t) a.1 in
@@ -139,7 +139,7 @@ small-token sig format (comm_token p) h =
 small-right : (sig : Sig) (c : Cond) → IsRightCond sig c → HasSmallOperands c
 small-right sig c h =
     let d = h.syntax_tree.condition in
-    let f = nil-append (checks.fault_if (is_large_condition d) _ h.syntax_tree.start) (condition_faults sig None d)
+    let f = both-empty (checks.fault_if (is_large_condition d) _ h.syntax_tree.start) (condition_faults sig None d)
     h.faultless in
     subst HasSmallOperands (sym h.is)
     (small-cond_of sig d (nil-fault_if (is_large_condition d) _ h.syntax_tree.start f.0))
@@ -330,11 +330,11 @@ module _ (sig : Sig) (format : Format) (tests : List Cond) (rules : List Program
 pub form-runnable : (sig : Sig) (f : Form) → IsRightForm sig f → form_faults sig f ≡ []
     → IsRunnable sig (program_of sig f)
 form-runnable sig f right h =
-    let a = nil-append (faults_of_declarations sig f) _ h in
-    let b = nil-append (faults_of_tests sig f) _ a.1 in
-    let c = nil-append (faults_of_rules sig f) _ b.1 in
-    let d = nil-append (faults_of_unused sig f) _ c.1 in
-    let e = nil-append (faults_of_begin sig f) (faults_of_code sig f) d.1 in
+    let a = both-empty (faults_of_declarations sig f) _ h in
+    let b = both-empty (faults_of_tests sig f) _ a.1 in
+    let c = both-empty (faults_of_rules sig f) _ b.1 in
+    let d = both-empty (faults_of_unused sig f) _ c.1 in
+    let e = both-empty (faults_of_begin sig f) (faults_of_code sig f) d.1 in
     runnable sig f.format (tests_of sig f) (program_of sig f).rules (line_of_begin f) (stop_number sig f) f.begin f.code
     refl right.code e.0 e.1 (small-tests sig f right)
 

@@ -20,13 +20,12 @@ use Rattle.mp_pattern.specs.PatternTree.{Pattern, symbol_pattern, app_pattern, w
 use Rattle.mp_pattern.specs.PatternTree.{Patterns, no_patterns, more_patterns}
 use Rattle.mp_pattern.specs.Sound.{DefaultIsNormal, DefaultsAreNormal}
 use Rattle.mp_table.specs.declared.limits.TheConstants.{MAX_CONSTANT_NODES}
-use Rattle.mp_table.specs.Table.{IsTableOf, Table, rank_of}
+use Rattle.mp_table.specs.Table.{IsTableOf, Table, rank_of, subject_of}
 use Rattle.mp_search.proofs.TableLaws.{subject-built, held-built}
 use Rattle.mp_walk.specs.CodeConstants.{code_constants, token_constants}
 use Rattle.mp_walk.specs.Instrs.{Instr}
 use Rattle.mp_walk.specs.SoundTokens.{IsSoundToken}
 use Rattle.mp_walk.specs.Walkable.{IsWalkable}
-use Rattle.mp_walk.specs.WalkView.{subject_of}
 use Rattle.mp_walk.proofs.CodeLaws.{tokens-sound}
 use Rattle.mp_program.specs.Program.{Program}
 use Rattle.mp_vm.specs.ProgramList.{IsProgramTable}

@@ -9,7 +9,7 @@ use Rattle.mp_io.specs.Devices.{Text}
 use Rattle.mp_term.specs.Listing.{In}
 use Rattle.mp_term.specs.Normal.{IsNormal}
 use Rattle.mp_term.specs.Signature.{Sig, is_comm}
-use Rattle.mp_term.proofs.ListLaws.{all-split}
+use Rattle.mp_term.proofs.ListLaws.{all-split, both-empty}
 use Rattle.mp_term.proofs.NormalSize.{normal-normal}
 use Rattle.mp_term.proofs.SearchLaws.{in-left, in-right, in-map}
 use Rattle.mp_pattern.specs.declared.limits.TheConstants.{MAX_PATTERN_NODES, MAX_VARIABLES}
@@ -31,7 +31,6 @@ use Rattle.mp_build.specs.Alone.{start}
 use Rattle.mp_build.specs.Build.{term_of}
 use Rattle.mp_build.specs.Checks as checks
 use Rattle.mp_build.specs.Checks.{loose_faults, is_large_pattern, pattern_faults, whole_pattern_faults}
-use Rattle.mp_build.proofs.Faultless.{nil-append}
 use Rattle.mp_build.proofs.SoundLaws.{holds_ops-pattern_of, defaults-pattern_of}
 use Rattle.mp_walk.specs.SoundTokens.{path_nodes}
 use Rattle.mp_walk.specs.Walkable.{Path, numbered_names, StandsFor, IsWhole}
@@ -92,9 +91,9 @@ module _ (sig : Sig) (format : Format) where
     )
     fits-token (comm_token p) h c known =
         let t = h.read.syntax_tree in
-        let f = nil-append (checks.fault_if (is_large_pattern t) _ (start t)) (whole_pattern_faults sig t)
+        let f = both-empty (checks.fault_if (is_large_pattern t) _ (start t)) (whole_pattern_faults sig t)
         h.read.faultless in
-        let g = nil-append (loose_faults t) (pattern_faults sig [] t) f.1 in (
+        let g = both-empty (loose_faults t) (pattern_faults sig [] t) f.1 in (
           h.rooted,
           names-in vs None p known,
           subst (λ q. holds_ops sig q ≡ true) (sym h.read.is) (holds_ops-pattern_of sig [] t g.1),

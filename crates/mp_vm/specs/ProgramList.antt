@@ -13,14 +13,13 @@ use Rattle.mp_pattern.specs.Fits.{Fits}
 use Rattle.mp_pattern.specs.Lists.{Pair, pair_cmp}
 use Rattle.mp_pattern.specs.PatternTree.{Pattern}
 use Rattle.mp_pattern.specs.Value.{Subst}
-use Rattle.mp_table.specs.Table.{Table, rank_of}
+use Rattle.mp_table.specs.Table.{Table, rank_of, subject_of}
 use Rattle.mp_walk.specs.CodeConstants.{code_constants}
 use Rattle.mp_walk.specs.CodeForest.{code_forest}
 use Rattle.mp_walk.specs.Forests.{lists}
 use Rattle.mp_walk.specs.Instrs.{accepts_at}
 use Rattle.mp_walk.specs.NamedItems.{with_names}
 use Rattle.mp_walk.specs.Walkable.{Path, StandsFor}
-use Rattle.mp_walk.specs.WalkView.{subject_of}
 use Rattle.mp_program.specs.Program.{ProgramRule, Program}
 use Rattle.mp_program.specs.TokenPaths.{test_of}
 

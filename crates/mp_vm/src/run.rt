@@ -11,7 +11,7 @@ ghost use Rattle.mp_walk.specs.Instrs.{accepts_at};
 ghost use Rattle.mp_walk.specs.Ranked.{pairs_of, AreOver};
 ghost use Rattle.mp_walk.specs.Walkable.{numbered_names};
 ghost use Rattle.mp_walk.specs.WalkItems.{IsLeafItem};
-ghost use Rattle.mp_walk.specs.WalkView.{subject_of};
+ghost use Rattle.mp_table.specs.Table.{subject_of};
 ghost use Rattle.mp_program.specs.ProgramView.{program_view, rule_view};
 ghost use Rattle.mp_program.specs.Reading.{IsValid};
 ghost use Rattle.mp_vm.specs.ProgramList.{IsAcceptedAt, IsGivenBy, IsPairOf, IsTestedBy, IsProgramList};

@@ -4,7 +4,7 @@ use Rattle.std.proofs.Common.{arith}
 use Rattle.std.specs.Prelude.{Option, Some, None, IsSome, IfSome}
 use Rattle.mp_term.specs.Signature.{Sig}
 use Rattle.mp_pattern.specs.Variables.{comm_above}
-use Rattle.mp_table.specs.Table.{Table}
+use Rattle.mp_table.specs.Table.{Table, subject_of}
 use Rattle.mp_subst.specs.Trail.{Trail}
 use Rattle.mp_walk.specs.declared.frame.Frame.{Frame}
 use Rattle.mp_walk.specs.CodeForest.{forest_of, code_forest}
@@ -14,10 +14,11 @@ use Rattle.mp_walk.specs.Forests.{walk}
 use Rattle.mp_walk.specs.Instrs.{Instr, instr_at}
 use Rattle.mp_walk.specs.Levels.{state_of}
 use Rattle.mp_ac.specs.Numbered.{numbered_subst}
-use Rattle.mp_walk.specs.OpenOnes.{above, open_of, opens, opens_at, AreFrames, IsFrame, IsFrameAt, IsPlaceBelow}
+use Rattle.mp_search.specs.Frames.{above}
+use Rattle.mp_walk.specs.OpenOnes.{open_of, opens, opens_at, AreFrames, IsFrame, IsFrameAt, IsPlaceBelow}
 use Rattle.mp_walk.specs.TokenMachine.{State, begin_state, token_steps, token_ends}
 use Rattle.mp_walk.specs.Walkable.{IsWalkable}
-use Rattle.mp_walk.specs.WalkView.{subject_of, IsFirstTarget}
+use Rattle.mp_walk.specs.WalkView.{IsFirstTarget}
 use Rattle.mp_walk.proofs.CodePaths.{instr-there}
 
 -- the frame of the root alone

@@ -1,15 +1,15 @@
 -- The steps below a commutative application.
-use Rattle.std.proofs.Common.{◌≡◌, ◌≤◌, ◌<◌, ◌+◌, ◌-◌, ℕ, zero, suc, List, [], ◌∷◌, ◌++◌, length, map, take}
+use Rattle.std.proofs.Common.{◌≡◌, ◌≤◌, ◌+◌, ◌-◌, ℕ, zero, suc, List, [], ◌∷◌, ◌++◌, map, take}
 use Rattle.std.proofs.Common.{drop, Bool}
-use Rattle.std.proofs.Common.{eqb-true, true, false, nat_eq, ◌&&◌, refl, ap, sym, ◌∙◌, subst, arith, slice_index_or}
+use Rattle.std.proofs.Common.{eqb-true, true, false, nat_eq, ◌&&◌, refl, ap, sym, ◌∙◌, subst, arith}
 use Rattle.std.specs.Prelude.{Option, Some, None, slice_get, MatchOption, if◌then◌else◌}
 use Rattle.std.proofs.lemmas.Bool.Decides.{nat_tests}
 use Rattle.std.specs.Prelude.{nat_lt}
-use Rattle.std.specs.List.{AllByRecursion}
 use Rattle.mp_term.specs.Normal.{IsNormal}
 use Rattle.mp_term.specs.NormalTest.{has_head, is_single, passes}
 use Rattle.mp_term.specs.Signature.{is_one}
 use Rattle.mp_term.specs.Tree.{Tree, symbol, app, tree_list}
+use Rattle.mp_term.proofs.ListLaws.{all-index}
 use Rattle.mp_pattern.specs.Fits.{arranged, no_sequence}
 use Rattle.mp_pattern.specs.NetTokens.{comm_token}
 use Rattle.mp_pattern.specs.PatternTree.{app_pattern}
@@ -39,12 +39,6 @@ no-way n headed single =
     ) refl
 
 -- ---- what a way takes
-
-all-index : {X : Type 0} (P : X → Type 0) (xs : List X) (n : ℕ) (d : X) → AllByRecursion P xs → n < length xs
-    → P (slice_index_or xs n d)
-all-index P [] n d h l = absurd (omega (arith, l))
-all-index P (x ∷ xs) zero d h l = h.0
-all-index P (x ∷ xs) (suc n) d h l = all-index P xs n d h.1 (omega (arith, l))
 
 module _ (b : Below) (h : IsBelow b) where
   normal-term : IsNormal b.sig.now (term_of b)

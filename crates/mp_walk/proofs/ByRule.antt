@@ -18,6 +18,7 @@ use Rattle.mp_theory.specs.Trail.{listed_by, derivations}
 use Rattle.mp_theory.specs.OneList.{Item, item_tables}
 use Rattle.mp_pattern.specs.Size.{all_pattern_nodes}
 use Rattle.mp_ac.specs.CommList.{below}
+use Rattle.mp_ac.proofs.FirstChild.{flat-flat}
 use Rattle.mp_theory.specs.Machine.{reads, entries, said, is_headed}
 use Rattle.mp_pattern.specs.NetTokens.{NetToken, sym_token, enter_token, leave_token, wild_token, comm_token, tokens}
 use Rattle.mp_pattern.specs.NetTokens.{all_tokens, renamed, all_renamed, numbered, number_in}
@@ -48,16 +49,6 @@ pub flat-map : {X Y Z : Type 0} (f : Y → List Z) (g : X → Y) (xs : List X)
     → flat_map f (map g xs) ≡ flat_map (λ x. f (g x)) xs
 flat-map f g [] = refl
 flat-map f g (x ∷ xs) = ap (λ ys. f (g x) ++ ys) (flat-map f g xs)
-
-flat-append : {X Y : Type 0} (f : X → List Y) (xs ys : List X) → flat_map f (xs ++ ys) ≡ flat_map f xs ++ flat_map f ys
-flat-append f [] ys = refl
-flat-append f (x ∷ xs) ys = ap (λ zs. f x ++ zs) (flat-append f xs ys)
-    ∙ sym (append_assoc (f x) (flat_map f xs) (flat_map f ys))
-
-pub flat-flat : {X Y Z : Type 0} (f : Y → List Z) (g : X → List Y) (xs : List X)
-    → flat_map f (flat_map g xs) ≡ flat_map (λ x. flat_map f (g x)) xs
-flat-flat f g [] = refl
-flat-flat f g (x ∷ xs) = flat-append f (g x) (flat_map g xs) ∙ ap (λ ys. flat_map f (g x) ++ ys) (flat-flat f g xs)
 
 pub flat-same : {X Y : Type 0} (f g : X → List Y) (xs : List X) → ((x : X) → f x ≡ g x) → flat_map f xs ≡ flat_map g xs
 flat-same f g [] h = refl

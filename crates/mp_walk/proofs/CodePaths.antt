@@ -3,9 +3,11 @@ use Rattle.std.proofs.Common.{◌≡◌, ℕ, zero, suc, ◌+◌, ◌<◌, ◌�
 use Rattle.std.proofs.Common.{◌⊎◌, inl, inr, subst, arith}
 use Rattle.std.specs.Prelude.{◌≢◌, Option, Some, None, slice_get, option_to_list, flat_map}
 use Rattle.std.proofs.lemmas.List.{append_assoc}
+use Rattle.std.proofs.lemmas.Option.{slice_get_past}
 use Rattle.mp_term.specs.Listing.{In}
 use Rattle.mp_term.specs.Signature.{Sig}
 use Rattle.mp_term.proofs.SearchLaws.{in-left, in-right, from_in-append, from_in-map, in-flat}
+use Rattle.mp_term.proofs.ListLaws.{some-same}
 use Rattle.mp_pattern.specs.NetTokens.{NetToken}
 use Rattle.mp_search.proofs.NumberLaws.{in-slice_get}
 use Rattle.mp_ac.specs.CommItems.{NoneTwice}
@@ -18,16 +20,11 @@ use Rattle.mp_walk.proofs.ForestLaws.{none-append, none-left, none-right, none-a
 abbrev Listed : Type 0
 Listed = ℕ × Path
 
--- what stands at an index is no index beyond the list
+-- what stands at an index is no index slice_get_past the list
 index-within : {X : Type 0} (xs : List X) (n : ℕ) (x : X) → slice_get xs n ≡ Some x → suc n ≤ length xs
 index-within [] n x e = cc
 index-within (y ∷ xs) zero x e = omega arith
 index-within (y ∷ xs) (suc n) x e = let h = index-within xs n x e in omega arith
-
-beyond : {X : Type 0} (xs : List X) (n : ℕ) → length xs ≤ n → slice_get xs n ≡ None
-beyond [] n h = refl
-beyond (y ∷ xs) zero h = absurd (omega arith)
-beyond (y ∷ xs) (suc n) h = beyond xs n (omega arith)
 
 pub number-within : (code : List Instr) (n : ℕ) (i : Instr) → instr_at code n ≡ Some i → (1 ≤ n) × (n ≤ length code)
 number-within code zero i e = cc
@@ -35,10 +32,7 @@ number-within code (suc n) i e = let h = index-within code n i e in (omega arith
 
 none-beyond : (code : List Instr) (n : ℕ) → length code < n → instr_at code n ≡ None
 none-beyond code zero h = refl
-none-beyond code (suc n) h = beyond code n (omega arith)
-
-some-is : {X : Type 0} (x y : X) → Some x ≡ Some y → x ≡ y
-some-is x y e = cc
+none-beyond code (suc n) h = slice_get_past code n (omega arith)
 
 -- an instruction is one of the table, and there is one for each number
 pub instr-in : (code : List Instr) (n : ℕ) (i : Instr) → instr_at code n ≡ Some i → In i code
@@ -117,7 +111,7 @@ module _ (code : List Instr) (forward : IsForward code) where
       (let z : 1 ≤ n = w.0 in omega arith)
       ∙ within-step (length code) code n i p
 
-  -- there is no forest where there is no target, and none beyond the table
+  -- there is no forest where there is no target, and none slice_get_past the table
   pub forest-none : forest_of code None ≡ none
   forest-none = within-none (length code) code
 
@@ -212,10 +206,10 @@ one-place : {X Y : Type 0} (f : X → List Y) (xs : List X) (y : Y) (a b : ℕ) 
 one-place f [] y a b u v h p q i j = cc
 one-place f (x ∷ xs) y zero zero u v h p q i j = refl
 one-place f (x ∷ xs) y zero (suc b) u v h p q i j =
-    absurd (none-apart (f x) (flat_map f xs) h y (subst (λ z. In y (f z)) (sym (some-is x u p)) i)
+    absurd (none-apart (f x) (flat_map f xs) h y (subst (λ z. In y (f z)) (sym (some-same x u p)) i)
     (in-flat f v y xs (in-slice_get xs b v q) j))
 one-place f (x ∷ xs) y (suc a) zero u v h p q i j =
-    absurd (none-apart (f x) (flat_map f xs) h y (subst (λ z. In y (f z)) (sym (some-is x v q)) j)
+    absurd (none-apart (f x) (flat_map f xs) h y (subst (λ z. In y (f z)) (sym (some-same x v q)) j)
     (in-flat f u y xs (in-slice_get xs a u p) i))
 one-place f (x ∷ xs) y (suc a) (suc b) u v h p q i j =
     ap suc (one-place f xs y a b u v (none-right (f x) (flat_map f xs) h) p q i j)
@@ -345,7 +339,7 @@ module _ (code : List Instr) (forward : IsForward code) (once : NoneTwice (flat_
       own : (is : List Instr) (n : ℕ) → NoneTwice (flat_map targets is) → slice_get is n ≡ Some i
           → NoneTwice (targets i)
       own [] n h p = cc
-      own (j ∷ is) zero h p = subst (λ z. NoneTwice (targets z)) (some-is j i p)
+      own (j ∷ is) zero h p = subst (λ z. NoneTwice (targets z)) (some-same j i p)
           (none-left (targets j) (flat_map targets is) h)
       own (j ∷ is) (suc n) h p = own is n (none-right (targets j) (flat_map targets is) h) p
 

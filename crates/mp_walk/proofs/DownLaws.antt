@@ -14,6 +14,7 @@ use Rattle.mp_ac.specs.declared.store.CommStore.{CommStore}
 use Rattle.mp_subst.specs.Trail.{Trail, length_at, cut}
 use Rattle.mp_subst.proofs.TrailLaws.{cut-whole, item_at}
 use Rattle.mp_table.specs.Table as plain_table
+use Rattle.mp_table.specs.Table.{subject_of}
 use Rattle.mp_theory.specs.Frames.{is_done}
 use Rattle.mp_walk.specs.Rooms.{target_room}
 use Rattle.mp_walk.proofs.RoomLaws.{below-room, beside-room}
@@ -30,7 +31,6 @@ use Rattle.mp_walk.specs.Levels.{read_of, state_of, step_cost, trail_before, Has
 use Rattle.mp_walk.specs.OpenOnes.{IsPlaceBelow, AreFrames, open_of, opens}
 use Rattle.std.proofs.lemmas.Bool.Decides.{nat_tests}
 use Rattle.mp_walk.specs.TokenMachine.{Open, State, begin_state, token_steps, token_ends}
-use Rattle.mp_walk.specs.WalkView.{subject_of}
 use Rattle.mp_walk.proofs.ChainLaws.{alike-same, chain-end, chain-more}
 use Rattle.mp_walk.proofs.CodePaths.{down-target, over-target, instr-there}
 use Rattle.mp_walk.proofs.OpenLaws.{opens-is}

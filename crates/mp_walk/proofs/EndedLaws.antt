@@ -24,7 +24,7 @@ use Rattle.mp_walk.specs.OpenOnes.{opens}
 use Rattle.mp_ac.specs.Numbered.{numbered_subst}
 use Rattle.mp_walk.specs.TokenMachine.{begin_state}
 use Rattle.mp_walk.specs.Visits.{total}
-use Rattle.mp_walk.specs.WalkView.{subject_of}
+use Rattle.mp_table.specs.Table.{subject_of}
 use Rattle.mp_walk.proofs.ChainLaws.{chain-last}
 use Rattle.mp_walk.proofs.CourseLaws.{over-to_come, reads_to_come-more}
 use Rattle.mp_walk.proofs.LastLaws.{there, last-chained}

@@ -13,7 +13,7 @@ use Rattle.mp_pattern.specs.declared.net_token.NetToken.TheVariants.{Sym, Enter,
 use Rattle.mp_pattern.specs.declared.net_token.NetToken.TheVariants.{Counted, Comm}
 use Rattle.mp_pattern.specs.declared.pattern.Pattern as declared_pattern
 use Rattle.mp_pattern.specs.Fits as fits
-use Rattle.mp_pattern.specs.Fits.{Entry}
+use Rattle.mp_pattern.specs.Fits.{Entry, nothing}
 use Rattle.mp_pattern.specs.NetTokens.{NetToken, sym_token, enter_token, leave_token, wild_token, comm_token}
 use Rattle.mp_pattern.specs.NetTokenView.{net_token}
 use Rattle.mp_pattern.proofs.ItemLaws.{slice_get-found, slice_get-second}
@@ -32,7 +32,7 @@ use Rattle.mp_walk.specs.Instrs.{Instr, instr_at}
 use Rattle.mp_walk.specs.Levels.{AreLevels, HasSearchIn, IsLevel, innermost_left, read_of, search_of}
 use Rattle.mp_walk.specs.OpenOnes.{opens}
 use Rattle.mp_walk.specs.TokenMachine.{Open}
-use Rattle.mp_walk.specs.WalkView.{nothing, ReadsAs}
+use Rattle.mp_search.specs.Reading.{ReadsAs}
 use Rattle.mp_walk.specs.Ways.{front_entry}
 use Rattle.mp_walk.proofs.LevelLaws.{first-below}
 use Rattle.mp_walk.proofs.WayLaws.{front-terms}

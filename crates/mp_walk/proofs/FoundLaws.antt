@@ -1,5 +1,5 @@
 -- The order of what is found: that what rules admit is their all-list in it.
-use Rattle.std.proofs.Common.{◌≡◌, ◌≤◌, ◌<◌, ℕ, zero, suc, length, false, List, [], ◌∷◌, ◌++◌, map}
+use Rattle.std.proofs.Common.{◌≡◌, ◌≤◌, ◌<◌, ℕ, zero, suc, length, List, [], ◌∷◌, ◌++◌, map}
 use Rattle.std.proofs.Common.{drop, refl, ap, ap₂, sym, true, ◌∙◌}
 use Rattle.std.proofs.Common.{inl, inr, subst, arith}
 use Rattle.std.specs.Prelude.{◌↔◌, Contains, Some}
@@ -43,12 +43,6 @@ found_same p q e =
     let names = slice_cmp-IsAntisymmetric nats_same (names_of p.1) (names_of q.1) b.0 in
     let same : p.1 ≡ q.1 = (equal-subst_cmp p.1 q.1 (subst_cmp p.1 q.1) names refl).0 b.1 in
     ap (λ (n : ℕ). (n, p.1)) (nat_same p.0 q.0 a.0) ∙ ap (λ (s : Subst). (q.0, s)) same
-
--- what isn't unequal is equal
-pub equal-not_ne : (o : Ordering) → is_ne o ≡ false → o ≡ Equal
-equal-not_ne Less e = cc
-equal-not_ne Equal e = refl
-equal-not_ne Greater e = cc
 
 -- the names of values
 pub names-kept : (t : tables.Table) (ks : List Kept) → names_of (map (kept_binding t) ks) ≡ map kept_name ks

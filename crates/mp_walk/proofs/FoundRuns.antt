@@ -1,12 +1,10 @@
 -- Pairs that ascend as they are found.
 use Rattle.std.proofs.Common.{◌≡◌, ◌<◌, ℕ, zero, suc, List, [], ◌∷◌, ◌++◌, length, get_or}
-use Rattle.std.proofs.Common.{arith, refl, sym, ap, true, ◌∙◌, Bool, subst}
+use Rattle.std.proofs.Common.{arith, sym, ap, ◌∙◌, Bool, subst}
 use Rattle.std.specs.Prelude.{◌↔◌, Contains, IsTrue}
 use Rattle.std.specs.List.{AllByRecursion}
 use Rattle.std.specs.List.Sorted.{IsStrictlySortedBy}
-use Rattle.std.specs.Ordering.{is_lt}
-use Rattle.std.specs.declared.cmp.Ordering.{Ordering}
-use Rattle.std.specs.declared.cmp.Ordering.TheVariants.{Less, Equal, Greater}
+use Rattle.std.specs.declared.cmp.Ordering.TheVariants.{Less}
 use Rattle.std.proofs.lemmas.List.{get_or-map, length-map, map_push}
 use Rattle.mp_term.proofs.ListLaws.{all-append}
 use Rattle.mp_pattern.specs.Lists.{Pair}
@@ -57,12 +55,6 @@ pub ascends-first : (ps : List Pair) (q : Pair) → length ps ≡ zero → IsStr
 unfolding IsStrictlySortedBy
 ascends-first [] q e = (tt, tt)
 ascends-first (p ∷ ps) q e = absurd (omega (arith, e))
-
--- what is tested to be less is less
-pub lt-less : (o : Ordering) → is_lt o ≡ true → o ≡ Less
-lt-less Less h = refl
-lt-less Equal h = cc
-lt-less Greater h = cc
 
 -- ---- one more pair
 

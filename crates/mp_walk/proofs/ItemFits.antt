@@ -9,7 +9,7 @@ use Rattle.mp_pattern.specs.Plan.{Plan, Variable, IsPlanOf}
 use Rattle.mp_pattern.specs.SoundRule.{IsSoundPattern}
 use Rattle.mp_pattern.specs.Variables.{variables}
 use Rattle.mp_pattern.proofs.PlanNodes.{plan-names}
-use Rattle.mp_table.specs.Table.{Table}
+use Rattle.mp_table.specs.Table.{Table, subject_of}
 use Rattle.mp_subst.specs.Trail.{Trail, subst_in}
 use Rattle.mp_search.proofs.TableLaws.{subject-normal}
 use Rattle.mp_walk.specs.declared.course.Course.{Course}
@@ -22,7 +22,6 @@ use Rattle.mp_walk.specs.Forests.{lists}
 use Rattle.mp_walk.specs.Levels.{read_of}
 use Rattle.mp_walk.specs.TokenMachine.{token_ends}
 use Rattle.mp_walk.specs.Walkable.{Path}
-use Rattle.mp_walk.specs.WalkView.{subject_of}
 use Rattle.mp_walk.proofs.ChainFits.{chain-fits, last_read}
 
 -- the last token that is read is that of the last level

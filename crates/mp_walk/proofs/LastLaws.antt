@@ -20,13 +20,13 @@ use Rattle.mp_walk.specs.Below.{below_table, below_ahead, IsAtWay}
 use Rattle.mp_ac.specs.Numbered.{numbered_subst}
 use Rattle.mp_pattern.specs.NetTokens.{NetToken, sym_token, enter_token, leave_token, wild_token, comm_token}
 use Rattle.mp_table.specs.Table as plain_table
+use Rattle.mp_table.specs.Table.{subject_of}
 use Rattle.mp_walk.specs.OpenOnes.{opens, IsPlaceBelow}
 use Rattle.mp_term.specs.Listing.{In}
 use Rattle.mp_term.specs.Tree.{Tree}
 use Rattle.mp_walk.specs.CourseVisits.{course_visits, token_visits, read_visits, visits_from}
 use Rattle.mp_walk.specs.TokenMachine.{begin_state}
 use Rattle.mp_walk.specs.Visits.{total}
-use Rattle.mp_walk.specs.WalkView.{subject_of}
 use Rattle.mp_walk.proofs.ChainLaws.{alike-same, chain-end, chain-last}
 use Rattle.mp_walk.proofs.TurnLaws.{opens-ordered, unread-steps, new-to_come}
 use Rattle.mp_walk.proofs.VisitLaws.{unread-visits}

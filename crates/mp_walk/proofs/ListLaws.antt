@@ -18,12 +18,6 @@ below_or_at (suc m) zero h = absurd (omega arith)
 below_or_at (suc m) (suc n) h =
     elim (below_or_at m n (omega arith)) [ inl l ↦ inl (omega arith) | inr e ↦ inr (ap suc e) ]
 
--- a number is below another one, or not
-pub below_or_not : (m n : ℕ) → (m < n) ⊎ (n ≤ m)
-below_or_not m zero = inr (omega arith)
-below_or_not zero (suc n) = inl (omega arith)
-below_or_not (suc m) (suc n) = elim (below_or_not m n) [ inl l ↦ inl (omega arith) | inr l ↦ inr (omega arith) ]
-
 -- what holds of each item holds of the first one, where there is one
 pub first-holds : {X : Type 0} (P : X → Type 0) (xs : List X) (o : Option X) → o ≡ slice_get xs 0 → AllByRecursion P xs
     → IfSome o P

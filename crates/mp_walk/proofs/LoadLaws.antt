@@ -4,22 +4,18 @@ use Rattle.std.proofs.Common.{false, nat_eq, refl, ap, ◌∙◌, arith}
 use Rattle.std.specs.Prelude.{if◌then◌else◌}
 use Rattle.mp_term.specs.Order.{tree_cmp}
 use Rattle.mp_term.specs.Pieces.{without}
-use Rattle.mp_term.specs.Size.{node_count, node_counts, all_nodes}
-use Rattle.mp_term.specs.Tree.{Tree, symbol, app, tree_list}
-use Rattle.mp_term.specs.TreeLists.{trees-tree_list}
+use Rattle.mp_term.specs.Size.{all_nodes}
+use Rattle.mp_term.specs.Tree.{Tree}
+use Rattle.mp_term.proofs.SizeLaws.{some-nodes}
 use Rattle.mp_pattern.specs.NetTokens.{NetToken, sym_token, enter_token, leave_token, wild_token, comm_token}
 use Rattle.mp_ac.specs.CommPlan.{nodes_below}
 use Rattle.mp_theory.specs.Machine.{arguments}
+use Rattle.mp_theory.proofs.Narrow.{all_nodes-arguments}
 use Rattle.mp_walk.specs.Course.{opens_by, way_cost, IsWayValid}
 use Rattle.mp_walk.specs.Levels.{opens_load, search_cost, step_cost}
 use Rattle.mp_walk.specs.Rooms.{token_room}
 use Rattle.mp_walk.specs.TokenMachine.{Open}
 use Rattle.mp_walk.proofs.WayLaws.{without-front}
-
--- a term has a node
-some-nodes : (t : Tree) → 1 ≤ node_count t
-some-nodes (symbol n) = omega arith
-some-nodes (app f ts) = omega arith
 
 -- the nodes of a front and of the rest are those of the list
 nodes-parted : (n : ℕ) (ts : List Tree) → all_nodes (take n ts) + all_nodes (drop n ts) ≡ all_nodes ts
@@ -31,15 +27,6 @@ front-nodes : (n : ℕ) (ts : List Tree) → n ≤ length ts → n ≤ all_nodes
 front-nodes zero ts h = omega arith
 front-nodes (suc n) [] h = absurd (omega arith)
 front-nodes (suc n) (t ∷ ts) h = omega (arith, some-nodes t, front-nodes n ts (omega arith))
-
--- the arguments of a term have fewer nodes than it
-arguments-nodes : (ts : List Tree) → all_nodes (arguments ts) ≤ all_nodes ts
-arguments-nodes [] = omega arith
-arguments-nodes (symbol n ∷ []) = omega arith
-arguments-nodes (app g us ∷ []) =
-    let e : all_nodes (tree_list us) ≡ node_counts us = ap node_counts (trees-tree_list us) in omega (arith, e)
-arguments-nodes (symbol n ∷ t ∷ ts) = omega arith
-arguments-nodes (app g us ∷ t ∷ ts) = omega arith
 
 -- what is left behind a front, whatever is taken of its terms
 rest-nodes : (n : ℕ) (ts : List Tree) → all_nodes (take n ts) + all_nodes (without tree_cmp (take n ts) ts)
@@ -56,7 +43,7 @@ load-after (enter_token g) f fs way v = by_way (nat_eq way 1)
         + (all_nodes (without tree_cmp (take 1 f.left) f.left) + opens_load
         fs) + 0 ≤ all_nodes f.left + opens_load fs + 0
     by_way true = (let e = rest-nodes 1 f.left in omega (arith, e))
-    by_way false = (let e = rest-nodes 1 f.left in let a = arguments-nodes (take 1 f.left) in omega (arith, e, a))
+    by_way false = (let e = rest-nodes 1 f.left in let a = all_nodes-arguments (take 1 f.left) in omega (arith, e, a))
 load-after (wild_token w x) f fs way v =
     (let e = rest-nodes way f.left in let a = front-nodes way f.left v in omega (arith, e, a))
 load-after (comm_token p) f fs way v = (let e = rest-nodes 1 f.left in omega (arith, e))

@@ -15,6 +15,7 @@ use Rattle.mp_pattern.specs.Plan.{Variable}
 use Rattle.mp_pattern.specs.Value.{Binding, Subst}
 use Rattle.mp_pattern.specs.Variables.{variables}
 use Rattle.mp_table.specs.Table as tables
+use Rattle.mp_table.specs.Table.{subject_of}
 use Rattle.mp_subst.specs.Bound.{Bound, value_in}
 use Rattle.mp_subst.specs.Trail.{Trail, TrailEntry, last_value, bindings_from, subst_in}
 use Rattle.mp_theory.proofs.FitsSolves.{fits-solves}
@@ -23,7 +24,6 @@ use Rattle.mp_walk.specs.declared.course.Course.{Course}
 use Rattle.mp_walk.specs.CourseView.{IsAtItem, item_of}
 use Rattle.mp_walk.specs.Instrs.{Instr}
 use Rattle.mp_walk.specs.NamedItems.{with_names, called, IsNamedSubst, IsItemTrail}
-use Rattle.mp_walk.specs.WalkView.{subject_of}
 use Rattle.mp_walk.proofs.ItemFits.{item-fits_names}
 
 -- the names of the variables that are called by them

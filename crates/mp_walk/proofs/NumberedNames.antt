@@ -1,11 +1,12 @@
 -- Variables that are named by their numbers: their names give the numbers back, and numbering them again changes
 -- nothing.
 use Rattle.std.proofs.Common.{◌≡◌, ℕ, zero, suc, ◌+◌, ◌<◌, List, [], ◌∷◌, map, length, Bool, true, false}
-use Rattle.std.proofs.Common.{refl, ap, sym, ◌∙◌, ◌⊎◌, inl, inr, subst, arith}
+use Rattle.std.proofs.Common.{refl, ap, sym, ◌∙◌, inl, inr, subst, arith}
 use Rattle.std.proofs.Common.{length-append}
 use Rattle.std.specs.Prelude.{Option, Some, None, ⊤, slice_get, if◌then◌else◌}
 use Rattle.mp_term.specs.Listing.{In}
 use Rattle.mp_term.proofs.SearchLaws.{in-map, in-left, in-right, from_in-append}
+use Rattle.mp_term.proofs.TestLaws.{below_or_last}
 use Rattle.mp_pattern.specs.NetTokens.{number_in, numbered, renamed, all_renamed}
 use Rattle.mp_pattern.specs.PatternTree.{Pattern, symbol_pattern, app_pattern, wild_pattern, Patterns, no_patterns}
 use Rattle.mp_pattern.specs.PatternTree.{more_patterns}
@@ -55,16 +56,6 @@ numbered_names-at (suc n) k h = elim (below_or_last k n h) [
       (let z : length (numbered_names n) ≡ n = length-numbered_names n in omega (arith, e, z))
       ∙ ap (λ m. Some (numbered m)) (sym e)
 ]
-  where
-    below_or_last : (k n : ℕ) → k < suc n → (k < n) ⊎ (k ≡ n)
-    below_or_last zero zero h = inr refl
-    below_or_last zero (suc n) h = inl (omega arith)
-    below_or_last (suc k) zero h = absurd (omega arith)
-    below_or_last (suc k) (suc n) h = elim (below_or_last k n (omega arith)) [
-      | inl l ↦ inl (omega arith)
-      | inr e ↦ inr
-          (ap suc e)
-    ]
 
 -- the names that stand at the wildcards of a pattern are all known
 abbrev mutual

@@ -1,20 +1,22 @@
 -- What a token takes from the open operation, as a frame counts it.
-use Rattle.std.proofs.Common.{◌≡◌, ◌≤◌, ◌<◌, ◌+◌, ◌++◌, ℕ, zero, suc, List, [], ◌∷◌, length, take, drop, Bool, true}
+use Rattle.std.proofs.Common.{◌≡◌, ◌≤◌, ◌<◌, ◌+◌, ◌++◌, ℕ, zero, suc, List, [], ◌∷◌, length, take, drop, Bool}
 use Rattle.std.proofs.Common.{false, not, ◌&&◌, ◌⊎◌, inl, inr, nat_eq, refl, ap, sym, ◌∙◌, subst, arith}
 use Rattle.std.specs.Prelude.{Option, Some, slice_get, slice_index_or}
 use Rattle.mp_term.specs.Tree.{Tree}
 use Rattle.mp_term.specs.Signature.{Sig, is_comm}
 use Rattle.std.proofs.lemmas.List.{length-append}
+use Rattle.std.proofs.Math.Bool.{and-true}
 use Rattle.mp_table.specs.Table.{Table}
 use Rattle.mp_pattern.specs.Variables.{comm_above}
 use Rattle.mp_walk.specs.declared.frame.Frame.{Frame}
-use Rattle.mp_walk.specs.OpenOnes.{above, open_of, opens, IsFrame, IsFrameAt, IsPlaceBelow, AreFrames}
+use Rattle.mp_search.specs.Frames.{above}
+use Rattle.mp_walk.specs.OpenOnes.{open_of, opens, IsFrame, IsFrameAt, IsPlaceBelow, AreFrames}
 use Rattle.mp_walk.proofs.LevelLaws.{below-more}
 use Rattle.mp_walk.proofs.OpenLaws.{opens-is, opens-more, parts-at}
 use Rattle.mp_pattern.specs.Fits.{is_left_out}
 use Rattle.mp_pattern.specs.NetTokens.{NetToken, sym_token, enter_token, leave_token, wild_token, comm_token}
 use Rattle.mp_pattern.specs.PatternTree.{Wildcard, dot, kind, plus, star, optional, counted, Pattern, symbol_pattern}
-use Rattle.mp_pattern.specs.PatternTree.{app_pattern, wild_pattern, no_patterns}
+use Rattle.mp_pattern.specs.PatternTree.{app_pattern, no_patterns}
 use Rattle.mp_term.specs.View.{tree}
 use Rattle.mp_term.specs.declared.term.OpId.{OpId}
 use Rattle.mp_term.specs.declared.term.Term.{Term}
@@ -29,26 +31,12 @@ use Rattle.mp_walk.specs.TokenMachine.{Open, rest_of_open, opened, numbered_wild
 use Rattle.mp_walk.specs.Ways.{first_entry}
 use Rattle.mp_walk.proofs.WayLaws.{without-front}
 use Rattle.mp_walk.proofs.ViewLaws.{not-zero}
-
--- what takes a term isn't left out
-left_out-some : (p : Pattern) (t : Tree) (ts : List Tree) → is_left_out p (t ∷ ts) ≡ false
-left_out-some (symbol_pattern n) t ts = refl
-left_out-some (app_pattern g ps) t ts = refl
-left_out-some (wild_pattern dot x) t ts = refl
-left_out-some (wild_pattern (kind k) x) t ts = refl
-left_out-some (wild_pattern plus x) t ts = refl
-left_out-some (wild_pattern star x) t ts = refl
-left_out-some (wild_pattern (optional d) x) t ts = refl
-left_out-some (wild_pattern (counted n b) x) t ts = refl
+use Rattle.mp_theory.proofs.InnerItems.{not-left_out}
 
 left_out-front : (p : Pattern) (n : ℕ) (ts : List Tree) → 1 ≤ n → n ≤ length ts → is_left_out p (take n ts) ≡ false
 left_out-front p zero ts h k = absurd (omega arith)
 left_out-front p (suc n) [] h k = absurd (omega arith)
-left_out-front p (suc n) (t ∷ ts) h k = left_out-some p t (take n ts)
-
-owes-kept : (b : Bool) → (b && true) ≡ b
-owes-kept true = refl
-owes-kept false = refl
+left_out-front p (suc n) (t ∷ ts) h k = not-left_out p t (take n ts)
 
 -- a child that isn't left out takes a front, and the rest is left
 rest-front : (p : Pattern) (n : ℕ) (c : Bool) (f : Open) → is_left_out p (take n f.left) ≡ false
@@ -63,7 +51,7 @@ rest-front p n c f h =
     })
     (without-front n f.left)
     ∙ ap (λ b. record { under = f.under; left = drop n f.left; owes = f.owes && not b; collapsed = f.collapsed }) h
-    ∙ ap (λ b. record { under = f.under; left = drop n f.left; owes = b; collapsed = f.collapsed }) (owes-kept f.owes)
+    ∙ ap (λ b. record { under = f.under; left = drop n f.left; owes = b; collapsed = f.collapsed }) (and-true f.owes)
 
 -- a symbol and an application take the first term
 pub rest-symbol : (n : List ℕ) (f : Open) (way : ℕ) → 1 ≤ length f.left

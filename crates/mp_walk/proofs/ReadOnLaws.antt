@@ -7,11 +7,11 @@ use Rattle.std.proofs.lemmas.List.{length-take-le}
 use Rattle.mp_term.specs.Listing.{In}
 use Rattle.mp_term.specs.Signature.{Sig}
 use Rattle.mp_term.specs.Tree.{Tree}
+use Rattle.mp_term.proofs.ListLaws.{all-split}
 use Rattle.mp_pattern.specs.NetTokens.{NetToken, sym_token, enter_token, leave_token, wild_token, comm_token}
 use Rattle.mp_table.specs.Table.{Table, rank_of}
 use Rattle.mp_subst.specs.Trail.{Trail, cut}
 use Rattle.mp_subst.proofs.TrailLaws.{cut-cut}
-use Rattle.mp_search.proofs.GroundsHeld.{both}
 use Rattle.mp_walk.specs.declared.frame.Frame.{Frame}
 use Rattle.mp_walk.specs.CodeConstants.{code_constants, token_constants}
 use Rattle.mp_walk.specs.Instrs.{Instr, instr_at}
@@ -53,8 +53,8 @@ held-at : (P : Tree → Type 0) (code : List Instr) (i : Instr) → In i code �
 held-at P [] i n h = absurd n
 held-at P (j ∷ code) i (inl e) h =
     subst (λ k. AllByRecursion P (token_constants k.token)) (sym e)
-    (both P (token_constants j.token) (code_constants code) h).0
-held-at P (j ∷ code) i (inr n) h = held-at P code i n (both P (token_constants j.token) (code_constants code) h).1
+    (all-split P (token_constants j.token) (code_constants code) h).0
+held-at P (j ∷ code) i (inr n) h = held-at P code i n (all-split P (token_constants j.token) (code_constants code) h).1
 
 -- the table holds the constants of a token
 pub constants-held : (t : Table) (code : List Instr) (n : ℕ) (i : Instr) → instr_at code n ≡ Some i

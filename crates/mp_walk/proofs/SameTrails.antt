@@ -6,6 +6,7 @@ use Rattle.mp_term.specs.Signature.{Sig}
 use Rattle.mp_pattern.specs.Value.{Value, Subst, value_of, same_name, merge}
 use Rattle.mp_pattern.specs.Fits.{Table}
 use Rattle.mp_pattern.proofs.NameLaws.{same_name-is, same_name-itself}
+use Rattle.mp_pattern.proofs.PlanParts.{nothing-mapped}
 use Rattle.mp_theory.specs.Solve.{Taken, bind, given, solve}
 use Rattle.mp_theory.specs.Frames.{Next}
 use Rattle.mp_theory.specs.Items.{items}
@@ -89,16 +90,12 @@ bind-none : (s : Subst) (x : List ℕ) (w : Value) → bind s x w ≡ None → b
 bind-none [] x w e = cc
 bind-none (b ∷ s) x w e = by_name (same_name b.name x) refl e (λ p. bind-none s x w p)
   where
-    nothing : {A B : Type 0} (f : A → B) (o : Option A) → option_map f o ≡ None → o ≡ None
-    nothing f None e = refl
-    nothing f (Some x) e = cc
-
     by_name : (c : Bool) → same_name b.name x ≡ c
         → (if c then option_map (λ u. record { name = b.name; value = u } ∷ s) (merge b.value w)
         else option_map (λ q. b ∷ q) (bind s x w)) ≡ None
         → (bind s x w ≡ None → bound_value (value_of s x) w ≡ None) → bound_value (value_of (b ∷ s) x) w ≡ None
-    by_name true p e go = rw p (nothing (λ u. record { name = b.name; value = u } ∷ s) (merge b.value w) e)
-    by_name false p e go = rw p (go (nothing (λ q. b ∷ q) (bind s x w) e))
+    by_name true p e go = rw p (nothing-mapped (λ u. record { name = b.name; value = u } ∷ s) (merge b.value w) e)
+    by_name false p e go = rw p (go (nothing-mapped (λ q. b ∷ q) (bind s x w) e))
 
 bind-same : (s q : Subst) (x : List ℕ) (w : Value) (r : Subst) → SameValues s q → bind s x w ≡ Some r
     → (p : Subst) × (bind q x w ≡ Some p) × SameValues r p

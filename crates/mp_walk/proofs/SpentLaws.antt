@@ -1,7 +1,8 @@
 -- What holds of a course when a token that has no step left is passed over.
-use Rattle.std.proofs.Common.{◌≡◌, ◌<◌, ℕ, Bool, true, false, List, [], ◌++◌, map, take, refl, ap, sym, ◌∙◌, subst}
+use Rattle.std.proofs.Common.{◌≡◌, ◌<◌, ℕ, true, List, [], ◌++◌, map, take, refl, ap, sym, ◌∙◌, subst}
 use Rattle.std.proofs.Common.{arith}
 use Rattle.std.specs.Prelude.{Option, Some, None, IsSome, option_map, slice_get}
+use Rattle.std.proofs.lemmas.Bool.{false_from_ne_true}
 use Rattle.mp_term.specs.Signature.{Sig}
 use Rattle.mp_pattern.specs.NetTokens.{NetToken, sym_token, enter_token, leave_token, wild_token, comm_token}
 use Rattle.mp_pattern.specs.Value.{Subst}
@@ -24,7 +25,7 @@ use Rattle.mp_walk.specs.Levels.{read_of, trail_before, HasRoom, search_of}
 use Rattle.mp_walk.specs.OpenOnes.{opens, open_of}
 use Rattle.mp_walk.specs.TokenMachine.{begin_state, Open}
 use Rattle.mp_ac.specs.Numbered.{numbered_subst, IsTrailOf}
-use Rattle.mp_walk.specs.WalkView.{subject_of}
+use Rattle.mp_table.specs.Table.{subject_of}
 use Rattle.mp_walk.specs.Ways.{HasNoWay, is_first_symbol}
 use Rattle.mp_walk.proofs.ChainLaws.{alike-same, chain-end}
 use Rattle.mp_walk.proofs.CodePaths.{over-target, instr-there}
@@ -55,11 +56,7 @@ pub other-symbol : (sig : Sig) (f : Open) (fs : List Open) (s : Subst) (k : NetT
     → ((name : List ℕ) → is_first_symbol name f.left ≡ true → first ≡ name_key name)
     → (token_key k ≡ 0 → ⊥) → (token_key k ≡ first → ⊥) → HasNoWay sig f fs s k 0
 other-symbol sig f fs s (sym_token n) first h own other =
-    no-symbol sig f fs s n (refused (is_first_symbol n f.left) (λ e. other (sym (h n e))))
-  where
-    refused : (b : Bool) → (b ≡ true → ⊥) → b ≡ false
-    refused true h = absurd (h refl)
-    refused false h = refl
+    no-symbol sig f fs s n (false_from_ne_true (is_first_symbol n f.left) (λ e. other (sym (h n e))))
 other-symbol sig f fs s (enter_token g) first h own other = absurd (own refl)
 other-symbol sig f fs s (leave_token g) first h own other = absurd (own refl)
 other-symbol sig f fs s (wild_token w x) first h own other = absurd (own refl)

@@ -14,7 +14,8 @@ use Rattle.mp_theory.specs.Machine.{is_ended, entered, taken_out, onward, said, 
 use Rattle.mp_theory.specs.Trail.{listed_by, derivations}
 use Rattle.mp_theory.specs.OneList.{Item}
 use Rattle.mp_theory.proofs.SubBags.{map-flat}
-use Rattle.mp_walk.proofs.ByRule.{flat-same, flat-map, flat-flat}
+use Rattle.mp_walk.proofs.ByRule.{flat-same, flat-map}
+use Rattle.mp_ac.proofs.FirstChild.{flat-flat}
 
 -- the nodes that are still to come
 abbrev pub frame_nodes : List Frame → ℕ

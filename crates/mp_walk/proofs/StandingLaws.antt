@@ -28,12 +28,11 @@ use Rattle.mp_walk.specs.Levels.{innermost_left, opens_load, IsLevel, AreLevels,
 use Rattle.mp_walk.specs.OpenOnes.{IsPlaceBelow, AreFrames, opens}
 use Rattle.mp_walk.specs.SoundTokens.{IsSoundToken}
 use Rattle.mp_walk.specs.TokenMachine.{Open, begin_state}
-use Rattle.mp_walk.specs.WalkView.{subject_of}
 use Rattle.mp_walk.proofs.ChainLaws.{alike-same, chain-end, owed-taken, owed-none}
 use Rattle.mp_ac.specs.Numbered.{numbered_subst, IsTrailOf, LiesOver}
 use Rattle.mp_walk.proofs.CourseLaws.{over-to_come}
 use Rattle.mp_walk.proofs.LevelLaws.{level-kept, levels-kept, marked-same, reads-kept, read-kept}
-use Rattle.mp_table.specs.Table.{rank_of}
+use Rattle.mp_table.specs.Table.{rank_of, subject_of}
 use Rattle.mp_walk.specs.CodeConstants.{token_constants}
 use Rattle.std.specs.List.{AllByRecursion}
 use Rattle.std.proofs.lemmas.List.{length-take-le}

@@ -10,6 +10,7 @@ use Rattle.std.specs.List.{range_with_len}
 use Rattle.std.specs.Option.{option_and_then}
 use Rattle.std.proofs.lemmas.Bool.Decides.{nat_tests}
 use Rattle.std.proofs.lemmas.List.{length-take-le, take-map}
+use Rattle.std.proofs.Math.Bool.{and-false}
 use Rattle.mp_term.proofs.PiecesLaws.{same-itself}
 use Rattle.mp_term.specs.Order.{tree_cmp}
 use Rattle.mp_term.specs.OrderLaws.{ordering_then-equal, tree_cmp_total, tree_same}
@@ -235,10 +236,6 @@ pub no-symbol : (sig : Sig) (f : Open) (fs : List Open) (s : Subst) (n : List �
     → HasNoWay sig f fs s (sym_token n) 0
 no-symbol sig f fs s n e zero l = rw (by_left f.left refl e) refl
   where
-    and-false : (b : Bool) → (b && false) ≡ false
-    and-false true = refl
-    and-false false = refl
-
     by_left : (ts : List Tree) → f.left ≡ ts → is_first_symbol n ts ≡ false
         → is_front sig f (symbol_pattern n) 1 ≡ false
     by_left [] h e = rw h refl

@@ -26,7 +26,8 @@ use Rattle.mp_walk.specs.TokenMachine.{below_items, steps_in}
 use Rattle.mp_walk.specs.Ways.{Step, front_entry, first_entry, is_way, item_step, front_steps, way_steps}
 use Rattle.mp_walk.specs.Ways.{ways_from}
 use Rattle.mp_walk.proofs.Alike.{out, at}
-use Rattle.mp_walk.proofs.ByRule.{flat-none, flat-flat}
+use Rattle.mp_walk.proofs.ByRule.{flat-none}
+use Rattle.mp_ac.proofs.FirstChild.{flat-flat}
 
 -- ---- pieces that are fronts
 

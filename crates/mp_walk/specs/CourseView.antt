@@ -24,7 +24,7 @@ use Rattle.mp_walk.specs.Rooms.{target_room}
 use Rattle.mp_walk.specs.TokenMachine.{Open, State, begin_state, token_steps, token_ends}
 use Rattle.mp_ac.specs.Numbered.{numbered_subst, IsTrailOf, LiesOver}
 use Rattle.mp_walk.specs.Walkable.{Path}
-use Rattle.mp_walk.specs.WalkView.{subject_of}
+use Rattle.mp_table.specs.Table.{subject_of}
 
 -- the tokens that are read
 abbrev pub reads_of : Course → List Read

@@ -1,16 +1,12 @@
 -- What contracts see of the operations that a walk has open.
 use Rattle.std.specs.Prelude.{◌≡◌, ◌<◌, ⊤, ℕ, false, List, [], ◌∷◌, ◌++◌, Option, Some, None}
-use Rattle.std.specs.Prelude.{option_map, slice_get, slice_index_or}
+use Rattle.std.specs.Prelude.{slice_get, slice_index_or}
 use Rattle.mp_term.specs.Signature.{Sig}
 use Rattle.mp_pattern.specs.Variables.{comm_above}
-use Rattle.mp_term.specs.declared.term.OpId.{OpId}
 use Rattle.mp_table.specs.Table.{Table, HasRanks, terms_at}
+use Rattle.mp_search.specs.Frames.{above}
 use Rattle.mp_walk.specs.declared.frame.Frame.{Frame}
 use Rattle.mp_walk.specs.TokenMachine.{Open}
-
--- the number of an operation, if there is one
-abbrev pub above : Option OpId → Option ℕ
-above f = option_map (λ g. g.0) f
 
 -- the table has the terms that are left
 abbrev pub IsFrame : Table → Frame → Type 0

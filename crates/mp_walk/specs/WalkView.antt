@@ -1,11 +1,9 @@
 -- What contracts see of a walk.
-use Rattle.std.specs.Prelude.{◌≡◌, ◌≤◌, length, MatchOption, ℕ, Bool, false, List, [], drop, slice_get, slice_index_or}
+use Rattle.std.specs.Prelude.{◌≡◌, ◌≤◌, length, MatchOption, ℕ, Bool, List, [], drop, slice_get}
 use Rattle.std.specs.Prelude.{Option}
 use Rattle.mp_term.specs.Signature.{Sig}
-use Rattle.mp_term.specs.Tree.{Tree, symbol}
 use Rattle.mp_pattern.specs.Fits as fits
-use Rattle.mp_table.specs.declared.rank.Rank.{Rank}
-use Rattle.mp_table.specs.Table.{Table, HasRanks, terms_at}
+use Rattle.mp_table.specs.Table.{Table}
 use Rattle.mp_walk.specs.Instrs.{Instr}
 
 -- the signature, the table of instructions, and the table with the subject; the item at which it stands, if it stands
@@ -21,18 +19,6 @@ pub record WalkView : Type 0 where
 -- one step on
 abbrev pub advanced : WalkView → WalkView
 advanced w = record w { item = slice_get w.to_come 0; to_come = drop 1 w.to_come }
-
--- the ranks and the mark stand for the entry
-abbrev pub ReadsAs : Table → List Rank × Bool → fits.Entry → Type 0
-ReadsAs t e d = HasRanks t e.0 × (terms_at t e.0 ≡ d.terms) × (e.1 ≡ d.collapsed)
-
--- an entry of nothing
-abbrev pub nothing : fits.Entry
-nothing = record { terms = []; collapsed = false }
-
--- the table's subject
-abbrev pub subject_of : Table → Tree
-subject_of t = slice_index_or t.terms t.root (symbol [])
 
 -- the target is the first instruction, where there is one
 abbrev pub IsFirstTarget : List Instr → Option ℕ → Type 0

@@ -16,7 +16,8 @@ ghost use Rattle.mp_walk.specs.Instrs.{instr_at};
 ghost use Rattle.mp_walk.specs.Levels.{read_of};
 ghost use Rattle.mp_walk.specs.TokenMachine.{token_steps, token_ends, begin_state};
 ghost use Rattle.mp_walk.specs.Setting.{IsSetting};
-ghost use Rattle.mp_walk.specs.WalkView.{IsFirstTarget, subject_of};
+ghost use Rattle.mp_table.specs.Table.{subject_of};
+ghost use Rattle.mp_walk.specs.WalkView.{IsFirstTarget};
 
 use crate::code::Code;
 use crate::entries::entry_among;

@@ -3,13 +3,12 @@ ghost use Rattle.std.specs.Prelude.{◌≡◌, ◌≤◌, false, true, nat_eq, [
 ghost use Rattle.std.specs.Prelude.{None, Some};
 ghost use Rattle.std.specs.Prelude.{ℕ, List, MatchOption, IfSome};
 ghost use Rattle.std.specs.Str.{bytes_eq};
-ghost use Rattle.mp_table.specs.Table.{HasRank, term_at};
+ghost use Rattle.mp_table.specs.Table.{HasRank, term_at, subject_of};
 ghost use Rattle.mp_theory.specs.Frames.{is_done};
 ghost use Rattle.mp_walk.specs.Keys.{name_key};
 ghost use Rattle.mp_walk.specs.OpenOnes.{IsFrame, open_of};
 ghost use Rattle.mp_walk.specs.TokenMachine.{begin_state, opened};
 ghost use Rattle.mp_walk.specs.Ways.{first_entry, is_first_symbol};
-ghost use Rattle.mp_walk.specs.WalkView.{subject_of};
 
 use crate::key::name_key;
 use mp_table::{Head, Rank, Table};

@@ -6,14 +6,16 @@ ghost use Rattle.mp_term.specs.Normal.{IsNormal};
 ghost use Rattle.mp_term.specs.Size.{node_count};
 ghost use Rattle.mp_pattern.specs.Fits as fits;
 ghost use Rattle.mp_pattern.specs.declared.limits.TheConstants.{MAX_VARIABLES};
-ghost use Rattle.mp_table.specs.Table.{rank_of};
+ghost use Rattle.mp_pattern.specs.Fits.{nothing};
+ghost use Rattle.mp_table.specs.Table.{rank_of, subject_of};
 ghost use Rattle.mp_subst.specs.Trail.{GoesWith};
 ghost use Rattle.mp_subst.specs.View.{subst_of};
 ghost use Rattle.mp_walk.specs.CodeConstants.{code_constants};
 ghost use Rattle.mp_walk.specs.Code.{IsCode};
 ghost use Rattle.mp_walk.specs.NamedItems.{IsItemTrail, IsNamedSubst};
 ghost use Rattle.mp_walk.specs.WalkItems.{AreLeafItems, IsItemSubst};
-ghost use Rattle.mp_walk.specs.WalkView.{advanced, nothing, subject_of, ReadsAs};
+ghost use Rattle.mp_search.specs.Reading.{ReadsAs};
+ghost use Rattle.mp_walk.specs.WalkView.{advanced};
 ghost use Rattle.mp_walk.specs.Walkable.{IsWalkable};
 
 use crate::code::Code;

@@ -8,10 +8,10 @@ use Rattle.mp_pattern.specs.PatternTree.{patterns}
 use Rattle.mp_pattern.specs.Size.{pattern_nodes, list_nodes}
 use Rattle.mp_pattern.specs.Variables.{variables}
 use Rattle.mp_pattern.specs.View.{pattern_tree}
+use Rattle.mp_pattern.proofs.OnePattern.{has_nodes}
 use Rattle.mp_table.specs.Table.{term_at, terms_at}
 use Rattle.mp_theory.specs.Filled.{filled, all_filled}
 use Rattle.mp_theory.specs.Shape.{shape, shapes}
-use Rattle.mp_theory.proofs.InnerItems.{some_nodes}
 use Rattle.mp_ac.specs.CommPlan.{IsNumbered}
 use Rattle.mp_ac.specs.Numbered.{numbered_subst}
 use Rattle.mp_ac.proofs.NumberedLaws.{lies-same, lies-more, lies-then}
@@ -93,7 +93,7 @@ fill_all-fill_all-requires t c =
     let any : 1 ≤ length ranks = grind (arith, nat_tests) in
     let nodes = laws.nodes-is list first some c.first-item.is in
     let kept = c.fill.ensures.kept in (
-      omega (arith, c.decreases, nodes, some_nodes (pattern_tree first)),
+      omega (arith, c.decreases, nodes, has_nodes (pattern_tree first)),
       (
         (laws.ranks-first list first some c.first-item.is tb ranks (record { 0 = 0 }) any c.requires.ranks).1,
         (

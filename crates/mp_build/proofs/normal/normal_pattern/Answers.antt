@@ -7,15 +7,15 @@ use Rattle.mp_build.specs.declared.fault.TextFault.{TextFault}
 use Rattle.mp_build.specs.Answers.{Gives}
 use Rattle.mp_build.specs.Build.{pattern_of}
 use Rattle.mp_build.specs.Checks.{loose_faults}
-use Rattle.mp_build.proofs.Faultless.{nil-append}
 use Rattle.mp_build.proofs.SoundLaws.{holds_ops-pattern_of, defaults-pattern_of}
 use Rattle.mp_build.proofs.normal.normal_pattern.Goals as goal
+use Rattle.mp_term.proofs.ListLaws.{both-empty}
 
 pub normal_built_pattern-requires-clause-held : goal.normal_built_pattern-requires-clause-held
 normal_built_pattern-requires-clause-held c =
     rw c.in_ok-pattern.ensures.1
     (holds_ops-pattern_of c.args.sig.now [] (expr_tree c.args.expr.now)
-    (nil-append (loose_faults (expr_tree c.args.expr.now)) _ c.in_ok-pattern.ensures.0).1)
+    (both-empty (loose_faults (expr_tree c.args.expr.now)) _ c.in_ok-pattern.ensures.0).1)
 
 pub normal_built_pattern-requires-clause-defaults : goal.normal_built_pattern-requires-clause-defaults
 normal_built_pattern-requires-clause-defaults c =

@@ -3,7 +3,7 @@ use Rattle.mp_term.specs.Size.{node_count}
 use Rattle.mp_pattern.specs.Subpatterns.{subpatterns}
 use Rattle.mp_pattern.proofs.PlanLaws.{length-subpatterns}
 use Rattle.mp_search.specs.Grounds.{AreGrounds}
-use Rattle.mp_cursor.specs.Listing.{subject_of}
+use Rattle.mp_table.specs.Table.{subject_of}
 use Rattle.mp_cursor.proofs.PartsLaws.{vacant-over}
 use Rattle.mp_pattern.proofs.PlanNodes.{plan-nodes}
 use Rattle.mp_cursor.proofs.cursor.parts_over.Goals as goal

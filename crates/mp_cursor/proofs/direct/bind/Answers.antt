@@ -3,11 +3,12 @@ use Rattle.std.specs.Prelude.{Some, None, option_map}
 use Rattle.std.specs.Ordering.{is_eq}
 use Rattle.mp_term.specs.Order.{tree_cmp}
 use Rattle.mp_term.specs.View.{tree}
+use Rattle.mp_term.proofs.TestLaws.{match-if}
 use Rattle.mp_pattern.specs.Value as plain
 use Rattle.mp_subst.specs.View.{subst_of, value_of}
 use Rattle.mp_theory.specs.Solve.{bind}
 use Rattle.mp_theory.proofs.FilledLaws.{bind-new, bind-again}
-use Rattle.mp_cursor.proofs.DirectLaws.{match-if, bind-unlike}
+use Rattle.mp_cursor.proofs.DirectLaws.{bind-unlike}
 use Rattle.mp_cursor.proofs.direct.bind.Goals as goal
 
 pub returns-in-Some-One : goal.returns-in-Some-One

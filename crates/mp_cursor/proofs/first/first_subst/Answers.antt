@@ -6,7 +6,7 @@ use Rattle.mp_pattern.specs.Planned.{planned_rule}
 use Rattle.mp_pattern.proofs.ConstantLaws.{constants-nodes, constants-normal}
 use Rattle.mp_pattern.proofs.SoundRules.{HasConditionOver-HasSoundCondition}
 use Rattle.mp_subst.specs.View.{subst_of}
-use Rattle.mp_cursor.specs.Listing.{subject_of}
+use Rattle.mp_table.specs.Table.{subject_of}
 use Rattle.mp_cursor.proofs.DirectLaws.{taken-first}
 use Rattle.mp_cursor.proofs.FirstLaws.{subject-built, constants-held, first-item, first-step, no-item, first-exact}
 use Rattle.mp_cursor.proofs.FirstLaws.{no-some}

@@ -6,7 +6,7 @@ use Rattle.mp_term.specs.Size.{node_count}
 use Rattle.mp_search.specs.Levels.{take_of}
 use Rattle.mp_search.specs.Reading.{table_of}
 use Rattle.mp_cursor.specs.Kept.{AreHeldTakes, HaveRoom}
-use Rattle.mp_cursor.specs.Listing.{subject_of}
+use Rattle.mp_table.specs.Table.{subject_of}
 use Rattle.mp_cursor.specs.Matched.{trail_subst}
 use Rattle.mp_cursor.proofs.LeastLaws.{item-short, least-test}
 use Rattle.mp_cursor.proofs.SliceLaws.{same-lengths}

@@ -4,9 +4,10 @@ use Rattle.std.proofs.lemmas.List.{map-id, take_all}
 use Rattle.mp_table.specs.Table.{HasRanks}
 use Rattle.mp_search.specs.Levels.{take_of}
 use Rattle.mp_cursor.specs.Kept.{HaveRoom}
-use Rattle.mp_cursor.proofs.SliceLaws.{taken-step, set-same, all-at}
+use Rattle.mp_cursor.proofs.SliceLaws.{taken-step, set-same}
 use Rattle.mp_cursor.proofs.TakesLaws.{room-at, set-levels, same-count}
 use Rattle.mp_cursor.proofs.takes.put_takes.Goals as goal
+use Rattle.mp_term.proofs.ListLaws.{all-index}
 
 pub put_take-requires : goal.put_take-requires
 put_take-requires c =
@@ -40,7 +41,7 @@ loop-index-preserved c =
       levels = λ table width a h. set-levels table width c.loop-index.levels i
           c.index-levels-index.result c.put_take.new.level (slice_index_or es i ([], false)).0
           (slice_index_or es i ([], false)).1 here (c.loop-index.invariant.levels table width a h)
-          (all-at (λ e. HasRanks table e.0) es i ([], false) h within) c.put_take.ensures.take
+          (all-index (λ e. HasRanks table e.0) es i ([], false) h within) c.put_take.ensures.take
           c.put_take.ensures.draws c.put_take.ensures.rest c.put_take.ensures.rooms;
     }
 

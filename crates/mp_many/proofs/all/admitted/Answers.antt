@@ -3,7 +3,7 @@ use Rattle.std.specs.Prelude.{Some, IfSome, option_map, slice_get}
 use Rattle.mp_pattern.specs.Admission.{meets}
 use Rattle.mp_pattern.specs.Fits.{Fits}
 use Rattle.mp_pattern.specs.RuleView.{rule_tree}
-use Rattle.mp_many.specs.Many.{subject_of}
+use Rattle.mp_table.specs.Table.{subject_of}
 use Rattle.mp_many.proofs.FoundLaws.{none-item, ready-item, same-number, some-item}
 use Rattle.mp_many.proofs.all.admitted.Goals as goal
 

@@ -2,7 +2,6 @@ use Rattle.std.proofs.Common.{◌≡◌, ◌<◌, ◌≤◌, ◌+◌, ◌*◌, �
 use Rattle.std.specs.Prelude.{Some, slice_get}
 use Rattle.std.specs.List.{filter_map}
 use Rattle.std.proofs.lemmas.Bool.Decides.{nat_tests}
-use Rattle.mp_subst.proofs.TrailLaws.{all-get}
 use Rattle.mp_net.specs.Items.{tables, opens, states}
 use Rattle.mp_net.specs.Short.{AreShort}
 use Rattle.mp_net.specs.Turned.{IsTurn}
@@ -12,6 +11,7 @@ use Rattle.mp_net.proofs.ShortLaws.{all_short-more}
 use Rattle.mp_net.proofs.StateLaws.{Built, built-none, built-more, built-all, rules-at}
 use Rattle.mp_net.specs.declared.limits.TheConstants.{MAX_STATES}
 use Rattle.mp_net.proofs.build.build_net.Goals as goal
+use Rattle.mp_term.proofs.ListLaws.{all-get}
 
 pub loop-alloc-init : goal.loop-alloc-init
 loop-alloc-init c =

@@ -1,7 +1,6 @@
 use Rattle.std.proofs.Common.{◌-◌, [], ◌∷◌, length, map, sym, ap, subst, arith}
 use Rattle.std.specs.Prelude.{IfSome}
 use Rattle.std.proofs.lemmas.List.{length-map}
-use Rattle.mp_subst.proofs.TrailLaws.{all-get}
 use Rattle.mp_net.specs.Items.{tables, opens}
 use Rattle.mp_net.specs.View.{mark_of}
 use Rattle.mp_net.specs.Short.{IsShort, AreShort}
@@ -10,6 +9,7 @@ use Rattle.mp_net.proofs.ShortLaws.{starts-short}
 use Rattle.mp_net.proofs.GroupLaws.{tables-held, one-group, more-group, below-fails}
 use Rattle.mp_net.specs.declared.limits.TheConstants.{MAX_STATES}
 use Rattle.mp_net.proofs.group.largest_group.Goals as goal
+use Rattle.mp_term.proofs.ListLaws.{all-get}
 
 pub chain-requires : goal.chain-requires
 chain-requires c =

@@ -5,7 +5,8 @@ use Rattle.mp_pattern.specs.View.{pattern_tree}
 use Rattle.mp_pattern.proofs.SoundRules.{HasConditionOver-HasSoundCondition}
 use Rattle.mp_subst.specs.View.{subst_of}
 use Rattle.mp_theory.specs.Filled.{filled}
-use Rattle.mp_net.specs.Walk.{subject_of, taken_subst}
+use Rattle.mp_table.specs.Table.{subject_of}
+use Rattle.mp_net.specs.Walk.{taken_subst}
 use Rattle.mp_net.proofs.FilledLaws.{none-of, some-of, tested-none, tested-some}
 use Rattle.mp_net.proofs.PairsLaws.{names-filled, ready-condition}
 use Rattle.mp_net.proofs.pairs.tested.Goals as goal

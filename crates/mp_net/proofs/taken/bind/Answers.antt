@@ -3,13 +3,13 @@ use Rattle.std.specs.Prelude.{Some}
 use Rattle.std.specs.Ordering.{is_eq}
 use Rattle.std.specs.Cmp.{unsigned_ties}
 use Rattle.mp_term.specs.Order.{tree_cmp}
+use Rattle.mp_term.proofs.TestLaws.{match-if}
 use Rattle.mp_pattern.specs.Value.{one, value_of}
 use Rattle.mp_table.specs.Table.{term_at}
 use Rattle.mp_table.proofs.RankLaws.{rank_order}
 use Rattle.mp_theory.specs.Solve as theory
 use Rattle.mp_net.specs.Walk.{taken_subst, AreHeld}
 use Rattle.mp_theory.proofs.FilledLaws.{bind-again, bind-new}
-use Rattle.mp_net.proofs.FilledLaws.{match-if}
 use Rattle.mp_net.proofs.WalkLaws.{taken_subst-append}
 use Rattle.mp_net.proofs.taken.bind.Goals as goal
 

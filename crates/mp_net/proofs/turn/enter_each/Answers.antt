@@ -1,12 +1,12 @@
 use Rattle.std.proofs.Common.{◌+◌, ◌<◌, ◌^◌, ◌∙◌, length, refl, sym}
 use Rattle.std.proofs.lemmas.List.{length-map, length-set}
 use Rattle.std.proofs.lemmas.Option.{slice_get_read}
-use Rattle.mp_subst.proofs.TrailLaws.{all-get}
 use Rattle.mp_net.specs.Net as net
 use Rattle.mp_net.specs.View.{mark_of}
 use Rattle.mp_net.specs.Items.{listed, item_below}
 use Rattle.mp_net.proofs.TurnLaws.{joined-nil, entered-next}
 use Rattle.mp_net.proofs.turn.enter_each.Goals as goal
+use Rattle.mp_term.proofs.ListLaws.{all-get}
 
 pub loop-index-init : goal.loop-index-init
 loop-index-init c = record { count = c.requires.lists; lists = sym (joined-nil (listed c.args.lists.now.items)) }

@@ -2,6 +2,7 @@ use Rattle.std.proofs.Common.{◌≡◌, ◌∙◌, ◌-◌, ◌<◌, ◌++◌, 
 use Rattle.std.specs.Prelude.{Some, None, IfSome}
 use Rattle.mp_term.specs.Size.{all_nodes}
 use Rattle.mp_term.specs.Tree.{trees}
+use Rattle.mp_term.proofs.SizeLaws.{some-nodes}
 use Rattle.mp_table.specs.Table.{term_at, terms_at, HasRanks}
 use Rattle.mp_table.specs.declared.rank.Rank.{Rank}
 use Rattle.mp_net.specs.Net.{edge_of, head_of, traces}
@@ -9,7 +10,7 @@ use Rattle.mp_net.specs.View.{turn_of}
 use Rattle.mp_net.specs.Walk.{visits, IsSeen}
 use Rattle.std.specs.List.{AllByRecursion}
 use Rattle.mp_net.proofs.WalkLaws.{args-nodes, args-count, seen-more, behind-run, trace-seen, none-first}
-use Rattle.mp_net.proofs.WalkLaws.{nodes-first, has-first, some_nodes, reads-below}
+use Rattle.mp_net.proofs.WalkLaws.{nodes-first, has-first, reads-below}
 use Rattle.mp_net.proofs.visit.+visit.Goals as goal
 
 pub visit-visit_all-requires : goal.visit-visit_all-requires
@@ -107,7 +108,7 @@ visit_all-visit_all-requires m c =
         arith,
         c.decreases,
         nodes-first tb rs d c.in-len1-up.len_at_least,
-        some_nodes (term_at tb (get_or rs 0 d)),
+        some-nodes (term_at tb (get_or rs 0 d)),
         ap (λ u. all_nodes (terms_at u rest)) c.visit.ensures.table,
       ),
       (

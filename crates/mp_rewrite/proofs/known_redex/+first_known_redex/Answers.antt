@@ -5,9 +5,9 @@ use Rattle.mp_term.specs.Tree.{app, trees}
 use Rattle.mp_term.specs.View.{tree}
 use Rattle.mp_term.specs.Size.{node_count, all_nodes}
 use Rattle.mp_term.specs.Normal.{IsNormal}
+use Rattle.mp_term.proofs.ListLaws.{all-get}
 use Rattle.mp_rewrite.specs.Computed as computed
 use Rattle.mp_pattern.specs.Planned.{planned_rule}
-use Rattle.mp_subst.proofs.TrailLaws.{all-get}
 use Rattle.mp_rewrite.specs.Marks.{dead}
 use Rattle.mp_rewrite.specs.MarkView.{mark_of}
 use Rattle.mp_rewrite.specs.Known.{IsKnown}

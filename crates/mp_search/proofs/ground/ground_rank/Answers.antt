@@ -2,12 +2,12 @@ use Rattle.std.proofs.Common.{◌≡◌, sym, ◌∙◌, subst}
 use Rattle.std.proofs.lemmas.Option.{slice_get_within, get_or_from_slice_get}
 use Rattle.mp_pattern.specs.Subpatterns.{subpatterns}
 use Rattle.mp_pattern.specs.View.{pattern_tree}
-use Rattle.mp_subst.proofs.TrailLaws.{all-get}
 use Rattle.mp_search.specs.Grounds.{ground_of, IsGround}
 use Rattle.mp_search.specs.Query.{HoldsGround}
 use Rattle.mp_search.specs.declared.grounds.Ground.TheVariants.{At}
 use Rattle.mp_search.proofs.GroundLaws.{ground-at, ground-term, ground-within, ground-none}
 use Rattle.mp_search.proofs.ground.ground_rank.Goals as goal
+use Rattle.mp_term.proofs.ListLaws.{all-get}
 
 pub bounds : goal.bounds
 bounds c =

@@ -3,15 +3,11 @@ use Rattle.std.specs.Ordering.{is_eq}
 use Rattle.std.specs.declared.cmp.Ordering.{Ordering}
 use Rattle.std.specs.declared.cmp.Ordering.TheVariants.{Less, Equal, Greater}
 use Rattle.mp_term.specs.Tree.{symbol}
+use Rattle.mp_term.proofs.TestLaws.{equal-from}
 use Rattle.mp_table.proofs.RankLaws.{rank_of-found}
 use Rattle.mp_search.proofs.grounds.is_at.Goals as goal
-
-equal : (o : Ordering) → is_eq o ≡ true → o ≡ Equal
-equal Less h = cc
-equal Equal h = refl
-equal Greater h = cc
 
 pub returns : goal.returns
 returns c = λ e.
     rank_of-found c.args.table.now (symbol c.args.name.now) c.len.ensures.valid.ascending (record { 0 = c.args.place })
-    (omega (arith, c.if-place-len.false, c.len.ensures.count)) (equal _ (sym c.is_symbol.ensures ∙ e))
+    (omega (arith, c.if-place-len.false, c.len.ensures.count)) (equal-from _ (sym c.is_symbol.ensures ∙ e))

@@ -1,6 +1,7 @@
-use Rattle.std.proofs.Common.{◌≡◌, ◌+◌, ◌-◌, ◌/◌, ◌<◌, Bool, true, false, length, refl, ap, sym, ◌∙◌, get_or, arith}
+use Rattle.std.proofs.Common.{◌≡◌, ◌+◌, ◌-◌, ◌/◌, ◌<◌, true, false, length, ap, sym, ◌∙◌, get_or, arith}
 use Rattle.std.proofs.lemmas.List.{get_or_default}
 use Rattle.std.proofs.lemmas.List.Sorted.{IsNonDecreasingBy-from_sort}
+use Rattle.std.proofs.lemmas.Bool.{false_from_ne_true}
 use Rattle.mp_table.specs.Table.{term_at}
 use Rattle.mp_table.specs.declared.rank.Rank.{Rank}
 use Rattle.mp_search.specs.Portion.{precedes}
@@ -55,7 +56,7 @@ loop-low-preserved c =
       order = omega (arith, before.order);
       within = omega (arith, there);
       before = before.before;
-      behind = λ i d a b. not_before (precedes t k past (term_at t (get_or xs i d)))
+      behind = λ i d a b. false_from_ne_true (precedes t k past (term_at t (get_or xs i d)))
           (λ e.
           let earlier = before-earlier t c.requires.table k past xs c.requires.ranks
           (IsNonDecreasingBy-from_sort (λ r. r.0) xs c.requires.ascending) middle i d a b e in
@@ -63,7 +64,3 @@ loop-low-preserved c =
           ∙ (ap (λ r. precedes t k past (term_at t r)) (sym (get_or_default xs middle zero_rank d there))
           ∙ found) in cc);
     }
-  where
-    not_before : (b : Bool) → (b ≡ true → ⊥) → b ≡ false
-    not_before true h = absurd (h refl)
-    not_before false h = refl

@@ -8,9 +8,9 @@ use Rattle.mp_search.specs.Reading.{subst_of}
 use Rattle.mp_search.proofs.HeadedLaws.{occurrences-drop, occurrences-none}
 use Rattle.mp_search.proofs.PortionLaws.{HasEnough, portion-kept, skip-part, skip-enough, enough-end, sub-front}
 use Rattle.mp_search.proofs.PortionLaws.{slice-enough}
-use Rattle.mp_search.proofs.RankOrder.{rank_total, rank_means}
 use Rattle.mp_search.proofs.Sublists.{sub-slice}
 use Rattle.mp_search.proofs.portion.fill_portion.Goals as goal
+use Rattle.mp_subst.proofs.RankLists.{rank_same, rank_cmp_total}
 
 pub loop-place-preserved-then-has_portion : goal.loop-place-preserved-then-has_portion
 loop-place-preserved-then-has_portion c =
@@ -115,7 +115,7 @@ returns-then-not-tells-clause-part c =
     let xs = c.args.site.now.left.now in
     let first = c.places-first.result.0 in
     subst (λ rs. is_sublist rank_cmp rs xs ≡ true) (sym c.refill.ensures.items)
-    (sub-slice rank_cmp rank_total rank_means first (c.places-first.result.1 - first) xs)
+    (sub-slice rank_cmp rank_cmp_total rank_same first (c.places-first.result.1 - first) xs)
 
 pub returns-then-not-tells-clause-enough : goal.returns-then-not-tells-clause-enough
 returns-then-not-tells-clause-enough c = λ z m w k.

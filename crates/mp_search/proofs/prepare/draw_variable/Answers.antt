@@ -2,7 +2,7 @@ use Rattle.std.proofs.Common.{ap, sym, ◌∙◌}
 use Rattle.std.specs.Prelude.{option_map}
 use Rattle.mp_pattern.specs.View.{pattern_tree}
 use Rattle.mp_subst.specs.Bound.{bound_of, IsBoundIn}
-use Rattle.mp_search.proofs.EndLaws.{last-value}
+use Rattle.mp_subst.proofs.TrailLaws.{last_value-all}
 use Rattle.mp_search.proofs.PoolLaws.{no-value}
 use Rattle.mp_search.proofs.SubstLaws.{has-value}
 use Rattle.mp_search.specs.Reading.{subst_of}
@@ -10,7 +10,7 @@ use Rattle.mp_search.proofs.prepare.draw_variable.Goals as goal
 
 pub draw_bound-requires-clause-bound : goal.draw_bound-requires-clause-bound
 draw_bound-requires-clause-bound c =
-    last-value (IsBoundIn c.args.query.now.table.now) c.args.trail.now.stack c.args.var (bound_of c.in-Some.bound)
+    last_value-all (IsBoundIn c.args.query.now.table.now) c.args.trail.now.stack c.args.var (bound_of c.in-Some.bound)
     c.requires.trail.values (sym c.binding.ensures.value ∙ ap (option_map bound_of) c.in-Some.is)
 
 pub returns-in-None-clause-made : goal.returns-in-None-clause-made

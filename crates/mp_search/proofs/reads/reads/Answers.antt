@@ -4,13 +4,13 @@ use Rattle.mp_pattern.specs.View.{pattern_tree, wildcard}
 use Rattle.mp_pattern.specs.Subpatterns.{subpatterns}
 use Rattle.mp_table.specs.Table.{terms_at}
 use Rattle.mp_theory.specs.Machine.{reads}
-use Rattle.mp_subst.proofs.TrailLaws.{all-get}
 use Rattle.mp_search.specs.Frames.{above}
 use Rattle.mp_search.specs.Grounds.{ground_of}
 use Rattle.mp_search.specs.Query.{HoldsGround}
 use Rattle.mp_search.proofs.ReadsLaws.{default_passes-held, reads-wild}
 use Rattle.mp_search.proofs.SiteLaws.{site-node}
 use Rattle.mp_search.proofs.reads.reads.Goals as goal
+use Rattle.mp_term.proofs.ListLaws.{all-get}
 
 pub returns-then-not-collapsed-2 : goal.returns-then-not-collapsed-2
 returns-then-not-collapsed-2 c =

@@ -2,15 +2,16 @@ use Rattle.std.proofs.Common.{ap, sym, ◌∙◌, subst}
 use Rattle.std.specs.Prelude.{Some, option_map}
 use Rattle.mp_pattern.specs.View.{pattern_tree}
 use Rattle.mp_subst.specs.Bound.{bound_of, IsBoundIn}
+use Rattle.mp_subst.proofs.TrailLaws.{last_value-all}
 use Rattle.mp_search.specs.Frames.{above}
 use Rattle.mp_search.specs.Numbers.{IsNumberAt}
-use Rattle.mp_search.proofs.EndLaws.{last-value}
 use Rattle.mp_search.proofs.ShareLaws.{length-none, length-some}
 use Rattle.mp_search.proofs.shares.length_known.Goals as goal
 
 pub contributed_length-requires : goal.contributed_length-requires
 contributed_length-requires c =
-    last-value (IsBoundIn c.args.query.now.table.now) c.args.trail.now.stack c.in_ok-var.var (bound_of c.in-Some.bound)
+    last_value-all (IsBoundIn c.args.query.now.table.now) c.args.trail.now.stack c.in_ok-var.var
+    (bound_of c.in-Some.bound)
     c.requires.trail.values (sym c.binding.ensures.value ∙ ap (option_map bound_of) c.in-Some.is)
 
 pub returns-in-None : goal.returns-in-None

@@ -3,7 +3,7 @@ use Rattle.std.proofs.lemmas.List.{get_or-map}
 use Rattle.mp_term.specs.OrderLaws.{tree_same}
 use Rattle.mp_term.specs.Tree.{symbol}
 use Rattle.mp_term.specs.View.{tree}
-use Rattle.mp_table.proofs.Distinct.{equal-from}
+use Rattle.mp_term.proofs.TestLaws.{equal-from}
 use Rattle.mp_table.proofs.pieces.has_term.Goals as goal
 
 pub returns-then-place-pieces-clause-term : goal.returns-then-place-pieces-clause-term

@@ -8,6 +8,7 @@ use Rattle.mp_term.specs.Size.{node_count, node_counts, all_nodes}
 use Rattle.mp_term.specs.Tree.{Tree, symbol, app, Trees, no_trees, more_trees, tree_list, trees}
 use Rattle.mp_term.specs.View.{tree}
 use Rattle.mp_term.specs.declared.term.OpId.{OpId}
+use Rattle.mp_term.proofs.ListLaws.{all-index}
 use Rattle.mp_pattern.specs.Constants.{pattern_constants}
 use Rattle.mp_pattern.specs.PatternTree.{Pattern, symbol_pattern, app_pattern, wild_pattern, Patterns, patterns}
 use Rattle.mp_pattern.specs.Plan.{Plan}
@@ -27,7 +28,6 @@ use Rattle.mp_ac.specs.Matcher.{IsCommNode}
 use Rattle.mp_ac.proofs.Below.{arguments-fine}
 use Rattle.mp_cursor.proofs.BeginLaws.{pattern-held}
 use Rattle.mp_cursor.proofs.FirstLaws.{constants-held}
-use Rattle.mp_cursor.proofs.SliceLaws.{all-at}
 use Rattle.mp_tests.proofs.matchers.matcher.Goals as goal
 
 -- the first of the subpatterns is the pattern
@@ -100,7 +100,7 @@ begin-requires-clause-arguments h c g ps e =
     subst (λ us. AreArguments sig g us) (sym c.args-args.ensures.terms)
     (subst (λ n. AreArguments sig n (arguments (term_at t root))) op
     (head-arguments sig (term_at t root) c.in-App-head.head c.in-App-head.ensures
-    (all-at (IsNormal sig) t.terms root.0 (symbol []) c.requires.matched.normal c.root-root.ensures.within)))
+    (all-index (IsNormal sig) t.terms root.0 (symbol []) c.requires.matched.normal c.root-root.ensures.within)))
 
 pub begin-requires-clause-few : goal.begin-requires-clause-few
 begin-requires-clause-few g c =

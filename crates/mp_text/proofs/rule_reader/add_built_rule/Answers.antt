@@ -3,17 +3,17 @@ use Rattle.std.proofs.lemmas.Result.{err_from_is_err_and}
 use Rattle.mp_parser.specs.View.{spot_of, arrow_tree, if_tree}
 use Rattle.mp_build.specs.Checks.{loose_faults}
 use Rattle.mp_build.proofs.Fails.{fails-along, fails-front, fails-behind, none-append}
-use Rattle.mp_build.proofs.Faultless.{nil-append}
 use Rattle.mp_build.proofs.SoundLaws.{holds_ops-pattern_of, defaults-pattern_of}
 use Rattle.mp_text.proofs.Draft.{draft_sig, draft_rule_count, draft-rule}
 use Rattle.mp_text.proofs.RuleReaderLaws.{is_large_rule-whole, rule_faults-whole}
 use Rattle.mp_text.proofs.rule_reader.add_built_rule.Goals as goal
+use Rattle.mp_term.proofs.ListLaws.{both-empty}
 
 pub normal_built_pattern-requires-clause-held : goal.normal_built_pattern-requires-clause-held
 normal_built_pattern-requires-clause-held c =
     let e = c.requires.0 in
     rw c.requires.1.pattern
-    (holds_ops-pattern_of c.args.draft.now.file.sig [] e (nil-append (loose_faults e) _ c.requires.1.faultless).1)
+    (holds_ops-pattern_of c.args.draft.now.file.sig [] e (both-empty (loose_faults e) _ c.requires.1.faultless).1)
 
 pub normal_built_pattern-requires-clause-defaults : goal.normal_built_pattern-requires-clause-defaults
 normal_built_pattern-requires-clause-defaults c =

@@ -2,8 +2,7 @@ use Rattle.std.proofs.Common.{◌≡◌, false, map, sym, ap, refl, ◌∙◌}
 use Rattle.std.specs.Prelude.{not, bytes_eq}
 use Rattle.std.specs.List.{list_any}
 use Rattle.std.proofs.lemmas.Bool.{not-true}
-use Rattle.mp_term.proofs.SignatureLaws.{map-insert_key}
-use Rattle.mp_vm.proofs.NameChecks.{list_any-map}
+use Rattle.mp_term.proofs.SignatureLaws.{map-insert_key, list_any-map}
 use Rattle.mp_vm.proofs.rules.add_name.Goals as goal
 
 pub returns-clause-new : goal.returns-clause-new

@@ -2,7 +2,7 @@ use Rattle.std.proofs.Common.{◌∙◌, ap, sym, subst}
 use Rattle.std.specs.Prelude.{IfSome}
 use Rattle.mp_walk.specs.Ranked.{pairs_of, AreOver}
 use Rattle.mp_walk.specs.WalkItems.{IsLeafItem, AreLeafItems}
-use Rattle.mp_walk.specs.WalkView.{subject_of}
+use Rattle.mp_table.specs.Table.{subject_of}
 use Rattle.mp_walk.proofs.ListLaws.{first-holds}
 use Rattle.mp_program.specs.ProgramView.{program_view}
 use Rattle.mp_vm.proofs.RunLaws.{HasFound, added-over, found-first, found-last, found-next, leaf-accepts}

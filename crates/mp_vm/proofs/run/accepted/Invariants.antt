@@ -1,6 +1,6 @@
 use Rattle.std.proofs.Common.{◌≡◌, length}
 use Rattle.mp_program.specs.ProgramView.{program_view}
-use Rattle.mp_walk.specs.WalkView.{subject_of}
+use Rattle.mp_table.specs.Table.{subject_of}
 use Rattle.mp_vm.proofs.RunLaws.{HasFound}
 use Rattle.mp_vm.proofs.run.accepted.Given as goal
 

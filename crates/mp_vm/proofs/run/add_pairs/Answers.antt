@@ -2,7 +2,7 @@ use Rattle.std.proofs.Common.{◌≡◌, ◌∙◌, ◌++◌, ◌∷◌, [], ap,
 use Rattle.std.specs.Prelude.{option_map}
 use Rattle.std.proofs.lemmas.List.{take_all, take_more}
 use Rattle.mp_table.proofs.Distinct.{in-place}
-use Rattle.mp_walk.specs.WalkView.{subject_of}
+use Rattle.mp_table.specs.Table.{subject_of}
 use Rattle.mp_program.specs.ProgramView.{program_view}
 use Rattle.mp_vm.proofs.RunLaws.{HasAdded, in-accepts, item-add, item-skip}
 use Rattle.mp_vm.proofs.run.add_pairs.Goals as goal

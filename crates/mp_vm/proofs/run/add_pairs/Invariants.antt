@@ -1,6 +1,6 @@
 use Rattle.std.proofs.Common.{◌≡◌, take}
 use Rattle.mp_program.specs.ProgramView.{program_view}
-use Rattle.mp_walk.specs.WalkView.{subject_of}
+use Rattle.mp_table.specs.Table.{subject_of}
 use Rattle.mp_vm.proofs.RunLaws.{HasAdded}
 use Rattle.mp_vm.proofs.run.add_pairs.Given as goal
 

@@ -2,7 +2,7 @@ use Rattle.std.proofs.Common.{ap, sym, subst, ◌∙◌}
 use Rattle.std.specs.Prelude.{Some, IfSome, option_map}
 use Rattle.mp_subst.specs.Trail.{GoesWith, subst_in}
 use Rattle.mp_walk.specs.NamedItems.{called}
-use Rattle.mp_walk.specs.WalkView.{subject_of}
+use Rattle.mp_table.specs.Table.{subject_of}
 use Rattle.mp_program.specs.ProgramView.{program_view, rule_view}
 use Rattle.mp_vm.specs.ProgramList.{IsPairOf}
 use Rattle.mp_vm.proofs.RunLaws.{item-few, item-there, item-accepted, item-none, item-some}

@@ -4,7 +4,7 @@ use Rattle.mp_pattern.specs.declared.limits.TheConstants.{MAX_VARIABLES}
 use Rattle.mp_pattern.specs.CondView.{cond_tree}
 use Rattle.mp_subst.specs.View.{subst_of}
 use Rattle.mp_walk.specs.Walkable.{numbered_names}
-use Rattle.mp_walk.specs.WalkView.{subject_of}
+use Rattle.mp_table.specs.Table.{subject_of}
 use Rattle.mp_program.specs.ProgramView.{program_view, rule_view}
 use Rattle.mp_vm.specs.ProgramList.{IsTestedBy}
 use Rattle.mp_walk.proofs.NumberedNames.{length-numbered_names}

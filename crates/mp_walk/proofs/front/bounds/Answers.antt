@@ -7,9 +7,10 @@ use Rattle.mp_walk.specs.OpenOnes.{open_of}
 use Rattle.mp_ac.specs.Numbered.{numbered_subst}
 use Rattle.mp_walk.specs.Trails.{shape_of, number_of}
 use Rattle.mp_walk.specs.Ways.{way_steps}
-use Rattle.mp_walk.proofs.ListLaws.{below_or_not, take-short}
+use Rattle.mp_walk.proofs.ListLaws.{take-short}
 use Rattle.mp_walk.proofs.WayLaws.{wild-clash, wild-beyond, too-few, too-many}
 use Rattle.mp_walk.proofs.front.bounds.Goals as goal
+use Rattle.mp_term.proofs.TestLaws.{below_or_not}
 
 pub returns-in-Some-clause-fewest : goal.returns-in-Some-clause-fewest
 returns-in-Some-clause-fewest c fs n l =

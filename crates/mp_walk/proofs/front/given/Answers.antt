@@ -6,7 +6,7 @@ use Rattle.mp_table.specs.Table.{terms_at}
 use Rattle.mp_theory.specs.Solve.{given}
 use Rattle.mp_subst.specs.Bound.{value_in, AreRanksOf}
 use Rattle.mp_search.proofs.BindLaws.{given-sequence, given-single}
-use Rattle.mp_walk.specs.OpenOnes.{above}
+use Rattle.mp_search.specs.Frames.{above}
 use Rattle.mp_walk.specs.Trails.{shape_of, number_of}
 use Rattle.mp_walk.proofs.front.given.Goals as goal
 

@@ -2,7 +2,8 @@ use Rattle.std.proofs.Common.{◌≡◌, [], ◌∷◌, take, refl, ap, sym, ◌
 use Rattle.std.specs.Prelude.{Some, None, is_some, MatchBool}
 use Rattle.mp_pattern.specs.NetTokenView.{net_token}
 use Rattle.mp_theory.specs.Solve.{given}
-use Rattle.mp_walk.specs.OpenOnes.{above, open_of}
+use Rattle.mp_search.specs.Frames.{above}
+use Rattle.mp_walk.specs.OpenOnes.{open_of}
 use Rattle.mp_walk.specs.TokenMachine.{rest_of_open, numbered_wildcard}
 use Rattle.mp_ac.specs.Numbered.{numbered_subst}
 use Rattle.mp_walk.specs.Trails.{shape_of, number_of, told_by}

@@ -9,9 +9,10 @@ use Rattle.mp_walk.specs.TokenMachine.{rest_of_open, numbered_wildcard}
 use Rattle.mp_ac.specs.Numbered.{numbered_subst}
 use Rattle.mp_walk.specs.Trails.{shape_of, number_of}
 use Rattle.mp_walk.specs.Ways.{front_entry, way_steps}
-use Rattle.mp_walk.proofs.ListLaws.{below_or_at, below_or_not}
+use Rattle.mp_walk.proofs.ListLaws.{below_or_at}
 use Rattle.mp_walk.proofs.WayLaws.{wild-collapsed}
 use Rattle.mp_walk.proofs.front.take_front.Goals as goal
+use Rattle.mp_term.proofs.TestLaws.{below_or_not}
 
 pub returns-then-is_barred-clause-way : goal.returns-then-is_barred-clause-way
 returns-then-is_barred-clause-way c fs n l =

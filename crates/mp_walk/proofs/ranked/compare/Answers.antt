@@ -4,8 +4,9 @@ use Rattle.mp_walk.specs.Found.{names_cmp}
 use Rattle.mp_walk.specs.Ranked.{ranked_cmp}
 use Rattle.mp_walk.specs.RankedView.{kept_binding, kept_name}
 use Rattle.mp_walk.specs.declared.ranked.Kept.{Kept}
-use Rattle.mp_walk.proofs.FoundLaws.{equal-not_ne, found-other_names, found-same_names, many-kept}
+use Rattle.mp_walk.proofs.FoundLaws.{found-other_names, found-same_names, many-kept}
 use Rattle.mp_walk.proofs.ranked.compare.Goals as goal
+use Rattle.mp_term.proofs.TestLaws.{equal-not_ne}
 
 pub returns-then-is_ne : goal.returns-then-is_ne
 returns-then-is_ne c =

@@ -6,7 +6,7 @@ use Rattle.mp_pattern.specs.Lists.{IsAllList}
 use Rattle.mp_text.specs.File.{subject_tree}
 use Rattle.mp_theory.proofs.AllList.{IsAllList-unique}
 use Rattle.mp_walk.specs.Ranked.{pairs_of, AreOver}
-use Rattle.mp_many.specs.Many.{subject_of}
+use Rattle.mp_table.specs.Table.{subject_of}
 use Rattle.mp_many.proofs.WalkTables.{subject-built, walk_table-built}
 use Rattle.mp_matches.specs.PairsListed.{front_lines, named}
 use Rattle.mp_matches.specs.PrintedPairs.{PutsWithMemory}

@@ -3,7 +3,7 @@ use Rattle.mp_term.specs.Normal.{IsNormal}
 use Rattle.mp_term.specs.View.{tree}
 use Rattle.mp_text.specs.File.{subject_tree}
 use Rattle.mp_walk.specs.Ranked.{pairs_of, AreOver}
-use Rattle.mp_walk.specs.WalkView.{subject_of}
+use Rattle.mp_table.specs.Table.{subject_of}
 use Rattle.mp_matches.specs.PairsListed.{front_lines, named}
 use Rattle.mp_matches.specs.PrintedPairs.{PutsWithMemory}
 use Rattle.mp_matches.proofs.PairsLaws.{subject-put}

@@ -10,7 +10,7 @@ use Rattle.mp_theory.specs.NoOptional.{HasNoOptional}
 use Rattle.mp_theory.proofs.OneListLaws.{one_list-is, item_list-are, item_substs-item_list}
 use Rattle.mp_search.proofs.TableLaws.{subject-normal}
 use Rattle.mp_cursor.specs.declared.matched.Matched.{Matched}
-use Rattle.mp_cursor.specs.Listing.{subject_of}
+use Rattle.mp_table.specs.Table.{subject_of}
 use Rattle.mp_cursor.proofs.BeginLaws.{is-matched, can-decide, condition-held}
 use Rattle.mp_cursor.proofs.cursor.Cursor.begin.Goals as goal
 

@@ -4,7 +4,7 @@ use Rattle.std.proofs.lemmas.List.{with_items_is, places}
 use Rattle.mp_term.specs.Size.{node_count}
 use Rattle.mp_search.specs.Levels.{AreLevels}
 use Rattle.mp_cursor.specs.Kept.{HasRoom}
-use Rattle.mp_cursor.specs.Listing.{subject_of}
+use Rattle.mp_table.specs.Table.{subject_of}
 use Rattle.mp_cursor.proofs.parts.Parts.is_least.Goals as goal
 
 pub returns-clause-over : goal.returns-clause-over

@@ -8,7 +8,8 @@ use Rattle.mp_search.specs.declared.mode.Mode.TheVariants.{First}
 use Rattle.mp_search.specs.Levels.{AreLevels}
 use Rattle.mp_search.specs.Reading.{table_of}
 use Rattle.mp_cursor.specs.Kept.{HaveRoom, AreHeldTakes}
-use Rattle.mp_cursor.specs.Listing.{subject_of, ReadAs, StandForNone}
+use Rattle.mp_table.specs.Table.{subject_of}
+use Rattle.mp_cursor.specs.Listing.{ReadAs, StandForNone}
 use Rattle.mp_cursor.specs.Matched.{sought}
 use Rattle.mp_cursor.specs.Parts.{item_of, levels_table}
 use Rattle.mp_cursor.proofs.LeastLaws.{sought-member, member-sought, read-fits, none-found, found-at, none-least}

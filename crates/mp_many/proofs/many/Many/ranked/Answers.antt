@@ -1,7 +1,7 @@
 use Rattle.std.proofs.Common.{◌≡◌, ◌∙◌, ◌<◌, [], ◌∷◌, ◌++◌, ap, drop, length, subst, sym}
 use Rattle.std.specs.Prelude.{IfSome, option_map}
 use Rattle.mp_many.specs.Given.{IsPairOf}
-use Rattle.mp_many.specs.Many.{subject_of}
+use Rattle.mp_table.specs.Table.{subject_of}
 use Rattle.mp_many.specs.WalkItems.{IsWalkItem}
 use Rattle.mp_walk.specs.Ranked.{pairs_of, AreOver}
 use Rattle.mp_walk.proofs.FoundLaws.{listing-all_list}

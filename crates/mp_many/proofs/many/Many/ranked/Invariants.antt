@@ -1,5 +1,5 @@
 use Rattle.std.proofs.Common.{◌≡◌, length}
-use Rattle.mp_many.specs.Many.{subject_of}
+use Rattle.mp_table.specs.Table.{subject_of}
 use Rattle.mp_many.proofs.FoundLaws.{HasFound}
 use Rattle.mp_many.proofs.many.Many.ranked.Given as goal
 

@@ -2,12 +2,11 @@ use Rattle.std.proofs.Common.{◌∙◌, refl, sym, subst}
 use Rattle.std.specs.Prelude.{IsSome}
 use Rattle.std.specs.List.{AllByRecursion}
 use Rattle.mp_term.proofs.SearchLaws.{all-from_in}
-use Rattle.mp_table.specs.Table.{rank_of}
+use Rattle.mp_table.specs.Table.{rank_of, subject_of}
 use Rattle.mp_walk.specs.CodeConstants.{code_constants}
 use Rattle.mp_walk.specs.WalkItems.{IsLeafItem, AreLeafItems}
 use Rattle.mp_walk.specs.Walkable.{IsWalkable}
 use Rattle.mp_many.specs.Laid.{tree_of}
-use Rattle.mp_many.specs.Many.{subject_of}
 use Rattle.mp_many.specs.RuleWalk.{given}
 use Rattle.mp_many.proofs.ItemLaws.{are-walk_items, one-table}
 use Rattle.mp_many.proofs.WalkLaws.{subject-normal}

@@ -1,7 +1,8 @@
 use Rattle.std.proofs.Common.{◌≤◌, ◌∙◌, length, ap, subst}
 use Rattle.std.specs.Prelude.{MatchOption, slice_index_or}
 use Rattle.mp_table.specs.Table.{Table}
-use Rattle.mp_walk.specs.WalkView.{nothing, ReadsAs}
+use Rattle.mp_pattern.specs.Fits.{nothing}
+use Rattle.mp_search.specs.Reading.{ReadsAs}
 use Rattle.mp_many.proofs.SubstLaws.{given-from}
 use Rattle.mp_many.proofs.walk.Walk.entry.Goals as goal
 

@@ -1,4 +1,4 @@
-use Rattle.std.proofs.Common.{◌≡◌, ◌∙◌, [], ◌++◌, length, take, drop, true, false, ap, sym, subst, refl, arith}
+use Rattle.std.proofs.Common.{◌≡◌, ◌∙◌, [], ◌++◌, length, take, drop, false, ap, sym, subst, refl, arith}
 use Rattle.std.specs.Prelude.{◌≢◌, IsSome, IsErr, slice_get}
 use Rattle.std.proofs.lemmas.Bool.{false_from_ne_true}
 use Rattle.mp_many.specs.Laid.{tree_of}
@@ -6,7 +6,7 @@ use Rattle.mp_many.specs.RuleWalk.{given}
 use Rattle.mp_many.specs.WalkItems.{accepts_at, rule_items}
 use Rattle.mp_term.proofs.ListLaws.{all-also}
 use Rattle.mp_walk.specs.WalkItems.{IsLeafItem}
-use Rattle.mp_many.specs.Many.{subject_of}
+use Rattle.mp_table.specs.Table.{subject_of}
 use Rattle.mp_many.proofs.ItemLaws.{leaf-some}
 use Rattle.mp_many.proofs.WalkLaws.{next-leaf, last-leaf, front-next, nothing-given}
 use Rattle.mp_many.proofs.walk.Walk.next.Goals as goal

@@ -11,7 +11,7 @@ use Rattle.mp_walk.specs.NamedItems.{called}
 use Rattle.mp_walk.specs.Ranked.{Ranked}
 use Rattle.mp_many.specs.RuleWalk.{given}
 use Rattle.mp_many.specs.Laid.{tree_of}
-use Rattle.mp_many.specs.Many.{subject_of}
+use Rattle.mp_table.specs.Table.{subject_of}
 use Rattle.mp_many.proofs.SubstLaws.{applied-fits, few-names, fits-given, given-number, given-some}
 use Rattle.mp_many.proofs.SubstLaws.{has-trail, rule-left}
 use Rattle.mp_many.proofs.WalkLaws.{subject-normal}

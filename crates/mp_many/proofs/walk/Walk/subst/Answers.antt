@@ -3,7 +3,7 @@ use Rattle.std.specs.Prelude.{IfSome, slice_get}
 use Rattle.mp_pattern.specs.Fits.{Fits}
 use Rattle.mp_pattern.specs.Instance.{is_fully_named, IsPatternApplied}
 use Rattle.mp_theory.specs.NoOptional.{HasNoOptional}
-use Rattle.mp_many.specs.Many.{subject_of}
+use Rattle.mp_table.specs.Table.{subject_of}
 use Rattle.mp_many.proofs.walk.Walk.subst.Goals as goal
 
 pub returns-clause-fits : goal.returns-clause-fits

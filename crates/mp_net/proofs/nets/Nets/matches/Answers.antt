@@ -8,7 +8,7 @@ use Rattle.mp_net.specs.AllList.{pairs_from}
 use Rattle.mp_net.specs.NetOf.{AreNets}
 use Rattle.mp_net.specs.Nets.{is_syntactic_rule, rule_marks}
 use Rattle.mp_net.specs.Probe.{more_reads}
-use Rattle.mp_net.specs.Walk.{subject_of}
+use Rattle.mp_table.specs.Table.{subject_of}
 use Rattle.mp_net.proofs.AllListLaws.{pairs-all_list}
 use Rattle.mp_net.proofs.PairsLaws.{IsAt, at-start, at-group, at-more, at-end, drop-zero}
 use Rattle.mp_net.proofs.PairsLaws.{reads-start, reads-group, reads-most}

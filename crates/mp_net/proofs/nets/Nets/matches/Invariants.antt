@@ -1,7 +1,7 @@
 use Rattle.std.proofs.Common.{◌≡◌, ◌≤◌, ◌*◌, drop}
 use Rattle.mp_term.specs.Size.{node_count}
 use Rattle.mp_net.specs.Probe.{more_reads}
-use Rattle.mp_net.specs.Walk.{subject_of}
+use Rattle.mp_table.specs.Table.{subject_of}
 use Rattle.mp_net.proofs.PairsLaws.{IsAt}
 use Rattle.mp_net.proofs.nets.Nets.matches.Given as goal
 

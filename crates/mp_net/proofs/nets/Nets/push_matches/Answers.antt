@@ -2,10 +2,10 @@ use Rattle.std.proofs.Common.{◌≡◌, ◌∙◌, ◌++◌, sym, ap, map, refl
 use Rattle.std.specs.Prelude.{Some, None}
 use Rattle.std.specs.List.{filter_map}
 use Rattle.std.proofs.lemmas.Option.{slice_get_read}
-use Rattle.mp_table.specs.Table.{term_at}
+use Rattle.mp_table.specs.Table.{term_at, subject_of}
 use Rattle.mp_net.specs.Net.{run, trace}
 use Rattle.mp_net.specs.View.{turn_of}
-use Rattle.mp_net.specs.Walk.{subject_of, visits, tested_pair}
+use Rattle.mp_net.specs.Walk.{visits, tested_pair}
 use Rattle.mp_net.proofs.FilledLaws.{some-of}
 use Rattle.mp_net.proofs.PairsLaws.{no_pairs, group-pairs, group-found, on-ok, found-same, root-subject}
 use Rattle.mp_net.proofs.nets.Nets.push_matches.Goals as goal

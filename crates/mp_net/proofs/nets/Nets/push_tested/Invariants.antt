@@ -1,6 +1,7 @@
 use Rattle.std.proofs.Common.{◌≡◌, ◌++◌, drop}
 use Rattle.std.specs.List.{AllByRecursion, filter_map}
-use Rattle.mp_net.specs.Walk.{subject_of, visits, tested_pair, IsFound}
+use Rattle.mp_table.specs.Table.{subject_of}
+use Rattle.mp_net.specs.Walk.{visits, tested_pair, IsFound}
 use Rattle.mp_net.proofs.nets.Nets.push_tested.Given as goal
 
 abbrev pub invariant-loop-number : goal.invariant-loop-number

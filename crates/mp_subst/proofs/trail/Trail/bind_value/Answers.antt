@@ -4,8 +4,9 @@ use Rattle.mp_subst.specs.Bound.{bound_of, IsBoundIn}
 use Rattle.mp_subst.specs.TrailView.{trail_entry, stack_of}
 use Rattle.mp_subst.specs.Outcome.{AllOutcomes}
 use Rattle.mp_subst.specs.declared.binding.Outcome.TheVariants.{Old}
-use Rattle.mp_subst.proofs.TrailLaws.{item_at, all-get}
+use Rattle.mp_subst.proofs.TrailLaws.{item_at}
 use Rattle.mp_subst.proofs.trail.Trail.bind_value.Goals as goal
+use Rattle.mp_term.proofs.ListLaws.{all-get}
 
 pub returns-in-Old : goal.returns-in-Old
 returns-in-Old c =

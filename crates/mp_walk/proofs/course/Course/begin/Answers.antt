@@ -5,7 +5,7 @@ use Rattle.std.specs.Prelude.{Some}
 use Rattle.std.specs.List.{AllByRecursion}
 use Rattle.std.proofs.lemmas.List.{append-nil}
 use Rattle.mp_term.specs.Size.{node_count}
-use Rattle.mp_table.specs.Table.{term_at}
+use Rattle.mp_table.specs.Table.{term_at, subject_of}
 use Rattle.mp_walk.specs.declared.frame.Frame.{Frame}
 use Rattle.mp_walk.specs.CourseView.{AreChained, IsMarked, LeadsTo}
 use Rattle.mp_walk.specs.Course.{table_read, reads_to_come, walk_from}
@@ -14,7 +14,6 @@ use Rattle.mp_walk.specs.OpenOnes.{AreFrames}
 use Rattle.mp_walk.specs.Rooms.{target_room}
 use Rattle.mp_walk.specs.TokenMachine.{begin_state}
 use Rattle.mp_ac.specs.Numbered.{IsTrailOf}
-use Rattle.mp_walk.specs.WalkView.{subject_of}
 use Rattle.mp_walk.proofs.BeginLaws.{begin-frames, begin-state, begin-there, begin-first}
 use Rattle.mp_walk.proofs.BeginLaws.{begin-walk}
 use Rattle.mp_walk.proofs.RoomLaws.{few-all, first-room}

@@ -1,7 +1,7 @@
 use Rattle.std.proofs.Common.{sym, subst}
 use Rattle.mp_search.proofs.TableLaws.{subject-normal}
 use Rattle.mp_walk.specs.WalkItems.{AreLeafItems}
-use Rattle.mp_walk.specs.WalkView.{subject_of}
+use Rattle.mp_table.specs.Table.{subject_of}
 use Rattle.mp_walk.proofs.WalkTheorem.{walk_items}
 use Rattle.mp_walk.proofs.walk.Walk.begin.Goals as goal
 

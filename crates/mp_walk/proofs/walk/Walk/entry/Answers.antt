@@ -2,7 +2,8 @@ use Rattle.std.proofs.Common.{◌≤◌, ◌∙◌, ap, length, sym, subst}
 use Rattle.std.specs.Prelude.{IsSome, MatchOption, slice_index_or}
 use Rattle.mp_table.specs.Table.{Table}
 use Rattle.mp_walk.specs.CourseView.{item_of}
-use Rattle.mp_walk.specs.WalkView.{nothing, ReadsAs}
+use Rattle.mp_pattern.specs.Fits.{nothing}
+use Rattle.mp_search.specs.Reading.{ReadsAs}
 use Rattle.mp_walk.proofs.EntryLaws.{entry-reads, item-same}
 use Rattle.mp_walk.proofs.ViewLaws.{standing-course}
 use Rattle.mp_walk.proofs.walk.Walk.entry.Goals as goal

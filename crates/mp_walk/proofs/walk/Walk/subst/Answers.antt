@@ -5,7 +5,7 @@ use Rattle.mp_subst.specs.Trail.{subst_in}
 use Rattle.mp_walk.specs.CourseView.{item_of}
 use Rattle.mp_walk.specs.WalkInside.{walk_view}
 use Rattle.mp_walk.specs.WalkItems.{IsItemSubst}
-use Rattle.mp_walk.specs.WalkView.{subject_of}
+use Rattle.mp_table.specs.Table.{subject_of}
 use Rattle.mp_walk.proofs.ViewLaws.{by_result, standing-course}
 use Rattle.mp_walk.proofs.ItemFits.{item-fits}
 use Rattle.mp_walk.proofs.walk.Walk.subst.Goals as goal

@@ -4,7 +4,7 @@ use Rattle.mp_pattern.specs.Variables.{variables}
 use Rattle.mp_subst.specs.Trail.{GoesWith}
 use Rattle.mp_walk.specs.NamedItems.{called, IsItemTrail}
 use Rattle.mp_walk.specs.WalkInside.{walk_view}
-use Rattle.mp_walk.specs.WalkView.{subject_of}
+use Rattle.mp_table.specs.Table.{subject_of}
 use Rattle.mp_walk.proofs.ItemFits.{item-fits_names}
 use Rattle.mp_walk.proofs.NamedLaws.{names-called}
 use Rattle.mp_walk.proofs.ViewLaws.{standing-course}

@@ -3,22 +3,17 @@ use Rattle.std.proofs.Common.{◌≡◌, List, [], ◌∷◌, false, refl, sym, 
 use Rattle.std.proofs.Common.{subst, true}
 use Rattle.std.specs.Prelude.{Some, slice_get, if◌then◌else◌}
 use Rattle.std.specs.declared.cmp.Ordering.{Ordering}
-use Rattle.std.specs.declared.cmp.Ordering.TheVariants.{Less, Equal, Greater}
+use Rattle.std.specs.declared.cmp.Ordering.TheVariants.{Less}
 use Rattle.std.specs.Ordering.{is_lt}
 use Rattle.std.specs.Cmp.{IsTotalOrder}
 use Rattle.std.specs.List.{AllByRecursion}
 use Rattle.std.specs.List.Sorted.{IsStrictlySortedBy}
 use Rattle.std.proofs.lemmas.Cmp.{tied_itself}
-use Rattle.mp_term.specs.Search.{In}
-use Rattle.mp_search.specs.Drawn.{above}
+use Rattle.mp_term.specs.Listing.{In, above}
 use Rattle.mp_term.proofs.ListingLaws.{less_than_all, all_in, one_way}
+use Rattle.mp_term.proofs.TestLaws.{less-from, not-lt}
 
 module _ {X : Type 0} (cmp : X → X → Ordering) (o : IsTotalOrder cmp) where
-  not_lt : (r : Ordering) → (r ≡ Less → ⊥) → is_lt r ≡ false
-  not_lt Less h = absurd (h refl)
-  not_lt Equal h = refl
-  not_lt Greater h = refl
-
   above-all : (x : X) (ys : List X) → AllByRecursion (λ y. cmp x y ≡ Less) ys → above cmp x ys ≡ ys
   above-all x [] h = refl
   above-all x (y ∷ ys) h = rw h.0 (ap (λ zs. y ∷ zs) (above-all x ys h.1))
@@ -26,7 +21,7 @@ module _ {X : Type 0} (cmp : X → X → Ordering) (o : IsTotalOrder cmp) where
   -- nothing is above the last
   pub above-none : (x : X) (ys : List X) → ((y : X) → In y ys → cmp x y ≡ Less → ⊥) → above cmp x ys ≡ []
   above-none x [] h = refl
-  above-none x (y ∷ ys) h = rw (not_lt (cmp x y) (h y (inl refl))) (above-none x ys (λ z i. h z (inr i)))
+  above-none x (y ∷ ys) h = rw (not-lt (cmp x y) (h y (inl refl))) (above-none x ys (λ z i. h z (inr i)))
 
   pub above-head : (x : X) (xs : List X) → AllByRecursion (λ y. cmp x y ≡ Less) xs → above cmp x (x ∷ xs) ≡ xs
   above-head x xs h = rw (tied_itself o x) (above-all x xs h)
@@ -52,8 +47,8 @@ module _ {X : Type 0} (cmp : X → X → Ordering) (o : IsTotalOrder cmp) where
       (rw m (ap (λ zs. y ∷ zs) (above-all w ys (less_than_all cmp o w y ys m s.0) ∙ sym (above-head y ys s.0))))
   above-next w x (y ∷ ys) s (inr i) l h =
       let m : cmp y x ≡ Less = all_in (λ z. cmp y z ≡ Less) ys x s.0 i in
-      let a : is_lt (cmp w y) ≡ false = not_lt (cmp w y) (λ p. h y (inl refl) p m) in
-      let b : is_lt (cmp x y) ≡ false = not_lt (cmp x y) (λ p. one_way cmp o x y p m) in
+      let a : is_lt (cmp w y) ≡ false = not-lt (cmp w y) (λ p. h y (inl refl) p m) in
+      let b : is_lt (cmp x y) ≡ false = not-lt (cmp x y) (λ p. one_way cmp o x y p m) in
       rw (a, b) (above-next w x ys s.1 i l (λ z j. h z (inr j)))
 
   -- the first of an ascending list, and what is above it
@@ -87,13 +82,8 @@ module _ {X : Type 0} (cmp : X → X → Ordering) (o : IsTotalOrder cmp) where
             let same : y ≡ x = cc in
             subst (λ z. y ∷ above cmp w ys ≡ z ∷ above cmp z (y ∷ ys)) same
             (ap (λ zs. y ∷ zs)
-            (above-all w ys (less_than_all cmp o w y ys (lt (cmp w y) q) s.0) ∙ sym (above-head y ys s.0)))
+            (above-all w ys (less_than_all cmp o w y ys (less-from (cmp w y) q) s.0) ∙ sym (above-head y ys s.0)))
         | false ↦ λ q k.
             let m : cmp y x ≡ Less = all_in (λ z. cmp y z ≡ Less) ys x s.0 (in-above w x ys k) in
-            rw (not_lt (cmp x y) (λ p. one_way cmp o x y p m)) (above-onward w x ys s.1 k)
+            rw (not-lt (cmp x y) (λ p. one_way cmp o x y p m)) (above-onward w x ys s.1 k)
       ] refl e
-    where
-      lt : (r : Ordering) → is_lt r ≡ true → r ≡ Less
-      lt Less h = refl
-      lt Equal h = cc
-      lt Greater h = cc
