@@ -1,7 +1,8 @@
 //! The devices, real and in memory.
 
 use mp_io::{
-    Failed, MemoryShelf, MemorySink, ReadFault, RealShelf, RealSink, put, put_all, read_whole,
+    Failed, MemoryShelf, MemorySink, ReadFault, RealShelf, RealSink, Writer, put, put_all, put_gap,
+    put_number, read_whole,
 };
 use std::alloc::Global;
 use std::fs;
@@ -188,6 +189,35 @@ fn is_taken(rt: &impl Abort, alloc: Global, row: &Writing) -> bool {
 fn a_sink_in_memory_takes_what_fits(rt: HostRuntime) {
     for row in WRITINGS {
         assert!(rt; is_taken(&rt, rt.alloc(), row), "{} {}", row.0, row.3);
+    }
+}
+
+// Puts the numbers, with a comma and a blank between each two. Answers whether they were put.
+fn put_numbers(numbers: &[u32], sink: &mut MemorySink) -> bool {
+    let mut out = Writer::new(sink);
+    for (index, number) in numbers.iter().enumerate() {
+        put_gap(index, b", ", &mut out);
+        put_number(*number, &mut out);
+    }
+    out.finish().is_ok()
+}
+
+const LISTS: &[(&[u32], &str)] = &[
+    (&[], ""),
+    (&[0], "0"),
+    (&[10, 9, 4294967295], "10, 9, 4294967295"),
+];
+
+// Whether the numbers are put as the text.
+fn are_put(rt: &impl Abort, alloc: Global, numbers: &[u32], text: &str) -> bool {
+    let mut sink = make_sink(rt, alloc, 20, &[]);
+    put_numbers(numbers, &mut sink) && sink.content() == text.as_bytes()
+}
+
+#[test]
+fn numbers_are_put_with_a_separator_between_each_two(rt: HostRuntime) {
+    for (numbers, text) in LISTS {
+        assert!(rt; are_put(&rt, rt.alloc(), numbers, text), "{text}");
     }
 }
 
