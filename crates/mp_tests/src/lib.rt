@@ -2,7 +2,7 @@
 //!
 //! They are of the first faults of texts; of files, terms, patterns and conditions as they are printed and read again;
 //! of edits of terms; of plans and take tables; and of the items of the one-list, of the cursor, listed to the end and
-//! from each token on, and of the matcher of a commutative node.
+//! from each token on, of the matcher of a commutative node, and of what one wildcard may take.
 #![tactic(auto)]
 
 #[cfg(test)]
@@ -43,3 +43,5 @@ mod reading;
 mod roots;
 #[cfg(test)]
 mod takes;
+#[cfg(test)]
+mod wildcards;

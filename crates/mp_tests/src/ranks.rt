@@ -37,16 +37,22 @@ const LARGE_VALUE: Value = (
     |(f(f(f(f(a, b), f(a, b)), f(a, b)), f(f(f(a, b), f(a, b)), b)), b)",
 );
 
-// The table of the subject, in a box.
-fn table(rt: &impl Abort, alloc: Global, sig: &Signature, subject: &str) -> Box<Table> {
+/// The table of the subject, in a box.
+pub fn table(rt: &impl Abort, alloc: Global, sig: &Signature, subject: &str) -> Box<Table> {
     let subject = term(rt, alloc, sig, subject);
     assert!(rt; is_normal(sig, &subject) && node_count(&subject) <= MAX_TERM_NODES);
     let table = Table::build(alloc, sig, &subject, &Terms::new(alloc)).expect(rt, "memory");
     Box::new(alloc, table).expect(rt, "memory")
 }
 
-// The ranks of terms that stand behind a `;` each.
-fn ranks(rt: &impl Abort, alloc: Global, sig: &Signature, table: &Table, text: &str) -> Vec<Rank> {
+/// The ranks of terms that stand behind a `;` each.
+pub fn ranks(
+    rt: &impl Abort,
+    alloc: Global,
+    sig: &Signature,
+    table: &Table,
+    text: &str,
+) -> Vec<Rank> {
     let mut ranks = Vec::new(alloc);
     for word in text.split(';') {
         if !word.is_empty() {
