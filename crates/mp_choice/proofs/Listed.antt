@@ -6,7 +6,7 @@ use Rattle.std.specs.declared.cmp.Ordering.{Ordering}
 use Rattle.std.specs.declared.cmp.Ordering.TheVariants.{Equal}
 use Rattle.std.specs.Cmp.{IsTotalOrder}
 use Rattle.std.specs.List.{AllByRecursion}
-use Rattle.mp_term.specs.Listing.{above, IsListing}
+use Rattle.mp_term.specs.Listing.{IsListing}
 use Rattle.mp_term.proofs.ListingLaws.{contains-from_in, in-from_contains}
 use Rattle.mp_term.proofs.ListsAbove.{above-none, above-least, above-next}
 use Rattle.mp_term.specs.Search.{In, Accepts}

@@ -4,7 +4,7 @@ use Rattle.std.proofs.Common.{refl, sym, ap, subst, ◌∙◌, take-append-drop}
 use Rattle.std.specs.Prelude.{◌==◌}
 use Rattle.std.proofs.lemmas.Bool.{eqb-true}
 use Rattle.mp_parser.specs.declared.place.Place.{Place}
-use Rattle.mp_parser.specs.Tokens.{Token, Bad, Placed, Tokens, TokensUntil, BeginsNoToken, Passes}
+use Rattle.mp_parser.specs.Tokens.{Token, Bad, Placed, TokensUntil, BeginsNoToken, Passes}
 use Rattle.mp_parser.specs.Tokens.{place_after}
 use Rattle.mp_parser.specs.Lexing.{lexemes, behind, after_blanks, kind_at}
 use Rattle.mp_parser.proofs.Spelling.{spells-token, kind_at-spells}

@@ -2,7 +2,7 @@
 use Rattle.std.proofs.Common.{◌≡◌, ℕ, List, [], ◌∷◌, length, map, refl, ap, sym, ◌∙◌}
 use Rattle.mp_term.specs.Signature.{Sig}
 use Rattle.mp_pattern.specs.PatternTree.{Pattern}
-use Rattle.mp_pattern.specs.Plan.{Plan, Variable, IsPlanOf, nodes}
+use Rattle.mp_pattern.specs.Plan.{Plan, Variable, IsPlanOf}
 use Rattle.mp_pattern.specs.Size.{pattern_nodes}
 use Rattle.mp_pattern.specs.Variables.{variables, variable_form}
 use Rattle.mp_pattern.proofs.NodeLaws.{plan-length}

@@ -1,5 +1,5 @@
 -- What a table that holds the constants of a pattern holds of its nodes.
-use Rattle.std.proofs.Common.{List, [], ◌∷◌, ◌++◌}
+use Rattle.std.proofs.Common.{[]}
 use Rattle.std.specs.Prelude.{IsSome}
 use Rattle.std.specs.List.{AllByRecursion}
 use Rattle.mp_term.proofs.ListLaws.{all-append, all-split}

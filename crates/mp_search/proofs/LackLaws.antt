@@ -1,6 +1,5 @@
 -- Children that are marked, and how many terms they may match.
 use Rattle.std.proofs.Common.{◌≡◌, ℕ, List, [], ◌∷◌, Bool, true, false, refl, ap, subst, arith}
-use Rattle.std.proofs.Common.{inl}
 use Rattle.std.specs.Prelude.{Option, ◌||◌}
 use Rattle.std.proofs.lemmas.Bool.{and_parts}
 use Rattle.mp_term.specs.Order.{tree_cmp}

@@ -8,7 +8,6 @@ use Rattle.mp_term.specs.Tree.{Tree, symbol, app, tree_list}
 use Rattle.mp_term.specs.Listing.{In}
 use Rattle.mp_pattern.specs.Fits.{Entry}
 use Rattle.mp_pattern.specs.Value.{Subst}
-use Rattle.mp_table.specs.Subterms.{arguments}
 use Rattle.mp_table.specs.Table.{Table, term_at}
 use Rattle.mp_table.specs.declared.rank.Rank.{Rank}
 use Rattle.mp_theory.specs.Frames.{Frame}

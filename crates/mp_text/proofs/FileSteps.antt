@@ -1,6 +1,6 @@
 -- The rules, subjects and edit statements of a file, statement by statement.
 use Rattle.std.proofs.Common.{◌≡◌, ℕ, List, [], ◌∷◌, ◌++◌, map, length, append-nil, refl}
-use Rattle.std.proofs.Common.{◌+◌, append_assoc, sym, ap, ◌∙◌}
+use Rattle.std.proofs.Common.{append_assoc, sym, ap, ◌∙◌}
 use Rattle.std.specs.Prelude.{Option}
 use Rattle.std.proofs.lemmas.List.{length-map}
 use Rattle.mp_term.specs.Signature.{Sig}

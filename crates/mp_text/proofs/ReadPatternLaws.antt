@@ -12,7 +12,7 @@ use Rattle.mp_pattern.specs.declared.pattern.Pattern as code
 use Rattle.mp_pattern.specs.declared.pattern.Pattern.TheVariants as codes
 use Rattle.mp_pattern.specs.declared.pattern.Shape.{Shape}
 use Rattle.mp_pattern.specs.PatternTree as pattern
-use Rattle.mp_pattern.specs.PatternTree.{Pattern, symbol_pattern, app_pattern, wild_pattern, least, most}
+use Rattle.mp_pattern.specs.PatternTree.{Pattern, symbol_pattern, app_pattern, wild_pattern, most}
 use Rattle.mp_pattern.specs.SoundRule.{pattern_most, fewest, greatest, sum_most, reaches}
 use Rattle.mp_pattern.specs.SoundRule.{allows_patterns}
 use Rattle.mp_pattern.specs.View.{pattern_tree}

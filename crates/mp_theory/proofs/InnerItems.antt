@@ -14,12 +14,12 @@ use Rattle.mp_pattern.specs.PatternTree.{dot, kind, plus, star, counted, optiona
 use Rattle.mp_pattern.specs.PatternTree.{app_pattern, wild_pattern, Patterns, no_patterns, more_patterns}
 use Rattle.mp_pattern.specs.Size.{pattern_nodes, all_pattern_nodes}
 use Rattle.mp_pattern.specs.Syntactic.{is_plain, is_syntactic, all_syntactic}
-use Rattle.mp_pattern.specs.Value.{one, Subst, same_name}
+use Rattle.mp_pattern.specs.Value.{Subst, same_name}
 use Rattle.mp_pattern.proofs.OnePattern.{has_nodes}
 use Rattle.mp_theory.specs.Filled.{filled, all_filled}
 use Rattle.mp_theory.specs.Frames.{Frame, refused, child, settle}
 use Rattle.mp_theory.specs.Items.{items, items_by, behind}
-use Rattle.mp_theory.specs.Machine.{entries, reads, taken_out}
+use Rattle.mp_theory.specs.Machine.{reads, taken_out}
 use Rattle.mp_theory.specs.OneList.{Item}
 use Rattle.mp_theory.specs.Shape.{shape, shapes, suits, takings, table_of, tables_of}
 use Rattle.mp_theory.specs.Solve.{solve}

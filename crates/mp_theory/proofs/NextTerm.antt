@@ -7,7 +7,7 @@ use Rattle.std.proofs.lemmas.Bool.{and_parts}
 use Rattle.std.proofs.lemmas.List.Kept.{IsStrictlySortedBy-filter}
 use Rattle.mp_term.specs.Order.{tree_cmp}
 use Rattle.mp_term.specs.OrderLaws.{tree_cmp_total, tree_same}
-use Rattle.mp_term.specs.Pieces.{without, is_piece}
+use Rattle.mp_term.specs.Pieces.{is_piece}
 use Rattle.mp_term.specs.Search.{In}
 use Rattle.mp_term.specs.Signature.{Sig, in_kind}
 use Rattle.mp_term.specs.Tree.{Tree, symbol}

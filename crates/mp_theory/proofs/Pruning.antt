@@ -1,6 +1,6 @@
 -- What may be left out: a place from which no table is accepted has no solutions, and one where too few terms are left
 -- is such a place.
-use Rattle.std.proofs.Common.{◌≡◌, ℕ, suc, ◌≤◌, ◌+◌, List, [], ◌∷◌, ◌++◌, length, true, false, refl, ap, ◌∙◌, inl}
+use Rattle.std.proofs.Common.{◌≡◌, ℕ, suc, ◌≤◌, ◌+◌, List, [], ◌∷◌, ◌++◌, length, true, false, refl, ap, ◌∙◌}
 use Rattle.std.proofs.Common.{arith, sym, subst, Bool}
 use Rattle.std.specs.Prelude.{Option, Some, None, if◌then◌else◌, flat_map, filter_map, option_map, option_and_then, ⊤}
 use Rattle.std.specs.List.{AllByRecursion}
@@ -19,7 +19,7 @@ use Rattle.mp_pattern.specs.Fits.{Entry, Table, WildTakes}
 use Rattle.mp_theory.specs.Solve.{bind, given, sequence, solve}
 use Rattle.mp_theory.proofs.Merging.{Refines, IsArranged, from_if, mapped, same_terms-sound}
 use Rattle.mp_theory.specs.Frames.{Frame, Next, ended, refused, child, is_done, settle}
-use Rattle.mp_term.specs.Search.{In, words, Accepts}
+use Rattle.mp_term.specs.Search.{words, Accepts}
 use Rattle.mp_term.specs.Pieces.{without}
 use Rattle.mp_theory.specs.Machine.{is_ended, entered, taken_out, onward, takes, choices, said}
 use Rattle.mp_theory.specs.Trail.{listed_by, solutions, derivations, derivations_by}

@@ -1,7 +1,4 @@
-use Rattle.std.proofs.Common.{◌≡◌, true, refl, sym, ◌∙◌, arith}
-use Rattle.std.specs.Ordering.{is_eq}
-use Rattle.std.specs.declared.cmp.Ordering.{Ordering}
-use Rattle.std.specs.declared.cmp.Ordering.TheVariants.{Less, Equal, Greater}
+use Rattle.std.proofs.Common.{sym, ◌∙◌, arith}
 use Rattle.mp_term.specs.Tree.{symbol}
 use Rattle.mp_term.proofs.TestLaws.{equal-from}
 use Rattle.mp_table.proofs.RankLaws.{rank_of-found}
