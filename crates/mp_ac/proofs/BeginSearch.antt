@@ -15,7 +15,7 @@ use Rattle.mp_term.specs.Sorting.{sorted}
 use Rattle.mp_term.specs.Tree.{Tree, symbol, app, tree_list}
 use Rattle.mp_term.specs.TreeLists.{trees-tree_list}
 use Rattle.mp_term.proofs.SearchLaws.{in-left, in-right}
-use Rattle.mp_term.proofs.Sorting.{Ascends, ascends-sorted}
+use Rattle.mp_term.proofs.Sorting.{Ascends, ascends-sorted, sorted-ascends}
 use Rattle.mp_term.proofs.ListLaws.{all-split}
 use Rattle.mp_pattern.specs.Constants.{pattern_constants, all_pattern_constants}
 use Rattle.mp_pattern.specs.Fits.{arranged}
@@ -39,7 +39,6 @@ use Rattle.mp_theory.proofs.FirstsLaws.{from_in-firsts_after}
 use Rattle.mp_search.specs.Grounds.{AreGrounds}
 use Rattle.mp_search.specs.declared.stage.Stage.TheVariants.{Before, Standing}
 use Rattle.mp_search.proofs.GroundsHeld.{grounds-held}
-use Rattle.mp_search.proofs.OpenLaws.{sorted-ascends}
 use Rattle.mp_ac.specs.Args.{args_of}
 use Rattle.mp_ac.specs.Asked.{IsAsked, cost, root_list}
 use Rattle.mp_ac.specs.Begin.{AreParts, IsNodeOf}

@@ -10,6 +10,13 @@ use Rattle.mp_io.specs.declared.writer.Writer.{Writer}
 use Rattle.mp_io.proofs.Written.{prints_as, prints_longer, prints_then}
 
 module _ {K : Type 0} (words : SinkWords K) where
+  -- nothing is put
+  pub Puts-nothing : (w : Writer K) → Puts words w w []
+  Puts-nothing w = record {
+    same = refl;
+    behind = λ start before h. subst (λ l. HasPut words start l w) (sym (append-nil before)) h;
+  }
+
   -- a text is put, and then another
   pub Puts-then : (u v w : Writer K) (first second : Text) → Puts words u v first → Puts words v w second
       → Puts words u w (first ++ second)

@@ -1,5 +1,5 @@
 -- What is listed rule by rule is the all-list.
-use Rattle.std.proofs.Common.{◌≡◌, ℕ, zero, suc, ◌+◌, ◌<◌, List, [], ◌∷◌, map, true, false, refl, ap, sym}
+use Rattle.std.proofs.Common.{◌≡◌, ℕ, zero, suc, ◌+◌, ◌<◌, List, [], ◌∷◌, map, refl, ap, sym}
 use Rattle.std.proofs.Common.{◌∙◌, inl, inr, subst, arith}
 use Rattle.std.specs.Prelude.{⊤, Some, if◌then◌else◌, slice_get}
 use Rattle.std.specs.declared.cmp.Ordering.{Ordering}
@@ -17,6 +17,7 @@ use Rattle.mp_term.specs.Tree.{Tree}
 use Rattle.mp_term.proofs.ListingLaws.{contains-from_in, in-from_contains, less_than_all}
 use Rattle.mp_term.proofs.SearchLaws.{all-from_in, ascending-append, from_in-append, from_in-map, in-left, in-map}
 use Rattle.mp_term.proofs.SearchLaws.{in-right}
+use Rattle.mp_term.proofs.Sorting.{all-insert_sorted}
 use Rattle.mp_pattern.specs.Admission.{Admits, AreLeast, IsLeast, Rule}
 use Rattle.mp_pattern.specs.DerivationOrder.{table_cmp}
 use Rattle.mp_pattern.specs.Fits.{Table}
@@ -38,15 +39,6 @@ module _ {X : Type 0} (cmp : X → X → Ordering) where
   AreApart (x ∷ xs) = AllByRecursion (λ y. cmp x y ≡ Equal → ⊥) xs × AreApart xs
 
   module _ (o : IsTotalOrder cmp) where
-    all-insert : (P : X → Type 0) (x : X) (ys : List X) → P x → AllByRecursion P ys
-        → AllByRecursion P (insert_sorted cmp x ys)
-    all-insert P x [] p h = (p, tt)
-    all-insert P x (y ∷ ys) p h =
-        elim (is_gt (cmp x y)) as (λ b. AllByRecursion P (if b then y ∷ insert_sorted cmp x ys else (x ∷ y ∷ ys))) [
-          | true ↦ (h.0, all-insert P x ys p h.1)
-          | false ↦ (p, h)
-        ]
-
     ascending-insert : (x : X) (ys : List X) → AllByRecursion (λ y. cmp x y ≡ Equal → ⊥) ys
         → IsStrictlySortedBy cmp ys → IsStrictlySortedBy cmp (insert_sorted cmp x ys)
     unfolding IsStrictlySortedBy
@@ -57,7 +49,7 @@ module _ {X : Type 0} (cmp : X → X → Ordering) where
           | Less ↦ λ e. ((e, less_than_all cmp o x y ys e h.0), h)
           | Equal ↦ λ e. absurd (a.0 e)
           | Greater ↦ λ e. (
-            all-insert (λ z. cmp y z ≡ Less) x ys (o.antisymm y x ∙ ap ordering_reverse e) h.0,
+            all-insert_sorted (λ z. cmp y z ≡ Less) cmp x ys (o.antisymm y x ∙ ap ordering_reverse e) h.0,
             ascending-insert x ys a.1 h.1,
           )
         ] refl

@@ -8,7 +8,7 @@ use Rattle.mp_io.specs.Printing.{IsCut, Prints}
 use Rattle.mp_io.specs.Writing.{HasPut, Puts}
 use Rattle.mp_io.specs.declared.devices.Sink.{Ghosts as SinkWords}
 use Rattle.mp_io.specs.declared.writer.Writer.{Writer}
-use Rattle.mp_io.proofs.WritingLaws.{Puts-then}
+use Rattle.mp_io.proofs.WritingLaws.{Puts-then, Puts-nothing}
 use Rattle.mp_matches.specs.Left.{Left, text_before}
 use Rattle.mp_matches.specs.Printed.{has_some, IsCutOff, IsWritten, PrintsMatches}
 use Rattle.mp_matches.specs.Put.{PutsFront, PutsMatches, PutsOne}
@@ -31,13 +31,6 @@ cut_off-front text front rest out split cut rose = (
 )
 
 module _ {K : Type 0} (words : SinkWords K) where
-  -- nothing is put
-  pub Puts-nothing : (w : Writer K) → Puts words w w []
-  Puts-nothing w = record {
-    same = refl;
-    behind = λ start before h. subst (λ l. HasPut words start l w) (sym (append-nil before)) h;
-  }
-
   -- nothing is a front of each text
   pub PutsFront-nothing : (w : Writer K) (text : Text) → PutsFront words w w text
   PutsFront-nothing w text = record { front = []; rest = text; split = refl; puts = Puts-nothing w }

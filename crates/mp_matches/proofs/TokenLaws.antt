@@ -1,12 +1,10 @@
 -- The token that is computed of a match is its token, and the only one.
-use Rattle.std.proofs.Common.{◌≡◌, ◌<◌, ◌+◌, ℕ, zero, suc, List, [], ◌∷◌, ◌++◌, true, false, map, length, get_or, refl}
-use Rattle.std.proofs.Common.{ap, ap₂, sym, ◌∙◌, subst, inl, inr, arith}
+use Rattle.std.proofs.Common.{◌≡◌, ◌<◌, ℕ, suc, List, [], ◌∷◌, ◌++◌, true, false, map, length, refl}
+use Rattle.std.proofs.Common.{ap, ap₂, sym, ◌∙◌, subst, inl, inr}
 use Rattle.std.specs.Prelude.{Bool, Contains, Option, Some, None, slice_get, option_and_then, if◌then◌else◌}
-use Rattle.std.specs.declared.cmp.Ordering.{Ordering}
-use Rattle.std.specs.Ordering.{eq_by_cmp, is_lt}
-use Rattle.std.specs.Cmp.{IsTotalOrder}
+use Rattle.std.specs.Ordering.{eq_by_cmp}
 use Rattle.std.specs.List.{AllByRecursion, dedup}
-use Rattle.std.specs.List.Sorted.{IsSorted, IsStrictlySortedBy}
+use Rattle.std.specs.List.Sorted.{IsStrictlySortedBy}
 use Rattle.std.proofs.lemmas.Cmp.{eq_by_cmp_equiv, tied_itself}
 use Rattle.std.proofs.lemmas.List.Kept.{Contains-dedup, Contains-from_dedup, IsStrictlySortedBy-dedup}
 use Rattle.std.proofs.lemmas.Option.{get_or_from_slice_get, slice_get-get_or}
@@ -21,8 +19,8 @@ use Rattle.mp_term.specs.Tree.{Tree, symbol, app, Trees, tree_list, trees}
 use Rattle.mp_term.specs.TreeLists.{tree_list-trees}
 use Rattle.mp_term.proofs.ListLaws.{all-also, all-append, all-split}
 use Rattle.mp_term.proofs.ListingLaws.{contains-from_in, in-from_contains, unique_listing}
-use Rattle.mp_term.proofs.Sorting.{Ascends, ascends-sorted}
-use Rattle.mp_term.proofs.TestLaws.{equal-from, not_less-flipped}
+use Rattle.mp_term.proofs.Sorting.{ascends-sorted, sorted-ascends}
+use Rattle.mp_term.proofs.TestLaws.{equal-from}
 use Rattle.mp_pattern.specs.Admission.{AreLeast, IsLeast, Rule}
 use Rattle.mp_pattern.specs.Constants.{rule_constants}
 use Rattle.mp_pattern.specs.Fits as fits
@@ -43,19 +41,6 @@ use Rattle.mp_token.specs.TokenText.{front_text}
 use Rattle.mp_cursor.specs.Listing.{ReadAs}
 use Rattle.mp_matches.specs.Match.{IsTokenOf, Match}
 use Rattle.mp_matches.specs.TokenOf.{entry_in, number_or_0, rank_in, table_of, token_of}
-
--- ---- sorted lists
-
-module _ {X : Type 0} (cmp : X → X → Ordering) where
-  -- and is sorted
-  sorted-ascends : IsTotalOrder cmp → (xs : List X) → Ascends cmp xs → IsSorted cmp xs
-  sorted-ascends o [] h k d _ l = absurd (omega (arith, l))
-  sorted-ascends o (x ∷ []) h k d _ l = absurd (omega (arith, l))
-  sorted-ascends o (x ∷ y ∷ xs) h zero d _ l = not_less-flipped (cmp x y) (cmp y x) (o.antisymm y x) h.0.0
-  sorted-ascends o (x ∷ y ∷ xs) h (suc k) d _ l =
-      let e : suc (k + 1) ≡ suc k + 1 = omega arith in
-      subst (λ n. is_lt (cmp (get_or (x ∷ y ∷ xs) n d) (get_or (y ∷ xs) k d)) ≡ false) e
-      (sorted-ascends o (y ∷ xs) h.1 k d (omega arith) (omega (arith, l)))
 
 -- ---- the table of a subject and of constants
 

@@ -1,5 +1,5 @@
 -- Facts about each item of a list, and sums over a list, where lists are joined or sorted.
-use Rattle.std.proofs.Common.{◌≡◌, ℕ, true, false, List, [], ◌∷◌, map, refl, ap, ◌∙◌}
+use Rattle.std.proofs.Common.{◌≡◌, ℕ, true, false, List, [], ◌∷◌, map, refl, ap, ◌∙◌, ◌+◌}
 use Rattle.std.specs.Prelude.{if◌then◌else◌}
 use Rattle.std.specs.declared.cmp.Ordering.{Ordering}
 use Rattle.std.specs.Ordering.{is_gt}
@@ -9,20 +9,12 @@ use Rattle.mp_term.specs.Sorting.{insert_sorted, sorted}
 use Rattle.mp_term.proofs.ListingLaws.{all_in}
 use Rattle.mp_term.proofs.SearchLaws.{all-from_in}
 use Rattle.mp_term.proofs.SortedMeasures.{joined_all}
+use Rattle.mp_term.proofs.Sorting.{all-insert_sorted}
 
 module _ {X : Type 0} (P : X → Type 0) where
-  all-insert_sorted : (cmp : X → X → Ordering) (x : X) (ys : List X) → P x → AllByRecursion P ys
-      → AllByRecursion P (insert_sorted cmp x ys)
-  all-insert_sorted cmp x [] h k = (h, tt)
-  all-insert_sorted cmp x (y ∷ ys) h k =
-      elim (is_gt (cmp x y)) as (λ b. AllByRecursion P (if b then y ∷ insert_sorted cmp x ys else (x ∷ y ∷ ys))) [
-        | true ↦ (k.0, all-insert_sorted cmp x ys h k.1)
-        | false ↦ (h, k)
-      ]
-
   pub all-sorted : (cmp : X → X → Ordering) (xs : List X) → AllByRecursion P xs → AllByRecursion P (sorted cmp xs)
   all-sorted cmp [] h = tt
-  all-sorted cmp (x ∷ xs) h = all-insert_sorted cmp x (sorted cmp xs) h.0 (all-sorted cmp xs h.1)
+  all-sorted cmp (x ∷ xs) h = all-insert_sorted P cmp x (sorted cmp xs) h.0 (all-sorted cmp xs h.1)
 
   all-from_insert : (cmp : X → X → Ordering) (x : X) (ys : List X) → AllByRecursion P (insert_sorted cmp x ys)
       → P x × AllByRecursion P ys

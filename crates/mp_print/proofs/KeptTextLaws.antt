@@ -1,12 +1,12 @@
 -- Texts that are kept of the terms of a table, and one more.
 use Rattle.std.proofs.Common.{◌≡◌, ◌<◌, ◌≤◌, ◌+◌, ◌-◌, ℕ, List, [], ◌∷◌, ◌++◌, length, take, drop, inl}
-use Rattle.std.proofs.Common.{inr, refl, sym, ap, ◌∙◌, subst, append_assoc, append-nil, arith}
+use Rattle.std.proofs.Common.{inr, sym, ap, ◌∙◌, subst, append_assoc, arith}
 use Rattle.std.specs.Prelude.{codes, slice_index_or}
 use Rattle.std.proofs.Math.Seq.{take-add, drop-append_seam}
 use Rattle.std.proofs.lemmas.List.{drop-append-le, drop-drop, drop-take, take-append-le, take_all, length-append}
 use Rattle.std.proofs.lemmas.List.{length-drop, length-take-le}
 use Rattle.mp_io.specs.Devices.{Text}
-use Rattle.mp_io.specs.Writing.{HasPut, Puts}
+use Rattle.mp_io.specs.Writing.{Puts}
 use Rattle.mp_io.specs.declared.devices.Sink.{Ghosts as SinkWords}
 use Rattle.mp_io.specs.declared.writer.Writer.{Writer}
 use Rattle.mp_io.proofs.WritingLaws.{Puts-then}
@@ -103,13 +103,6 @@ AreKeptTexts-pushed sig t bytes added parts n count kept own r p at some =
     ]
 
 module _ {K : Type 0} (words : SinkWords K) where
-  -- nothing is put
-  pub Puts-nothing : (w : Writer K) → Puts words w w []
-  Puts-nothing w = record {
-    same = refl;
-    behind = λ start before h. subst (λ l. HasPut words start l w) (sym (append-nil before)) h;
-  }
-
   -- a text is put but for its end, which more stands behind
   pub PutsBut-more : (u v : Writer K) (text end more : Text) → PutsBut words u v text end
       → PutsBut words u v (text ++ more) (end ++ more)

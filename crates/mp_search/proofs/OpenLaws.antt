@@ -1,16 +1,12 @@
 -- What is left to a child ascends under a commutative operation.
-use Rattle.std.proofs.Common.{◌≡◌, zero, suc, ◌+◌, List, [], ◌∷◌, Bool, true, false}
-use Rattle.std.proofs.Common.{sym, ◌∙◌, subst, arith, get_or}
+use Rattle.std.proofs.Common.{◌≡◌, List, [], Bool, true}
+use Rattle.std.proofs.Common.{sym, ◌∙◌, subst}
 use Rattle.std.specs.Prelude.{if◌then◌else◌}
-use Rattle.std.specs.Ordering.{is_lt}
-use Rattle.std.specs.declared.cmp.Ordering.{Ordering}
-use Rattle.std.specs.Cmp.{IsTotalOrder}
 use Rattle.std.specs.List.Sorted.{IsSorted}
 use Rattle.mp_term.specs.Order.{tree_cmp}
 use Rattle.mp_term.specs.Sorting.{sorted}
 use Rattle.mp_term.specs.Tree.{Tree}
-use Rattle.mp_term.proofs.Sorting.{Ascends, ascends-sorted}
-use Rattle.mp_term.proofs.TestLaws.{not_less-flipped}
+use Rattle.mp_term.proofs.Sorting.{Ascends, ascends-sorted, sorted-ascends}
 use Rattle.mp_pattern.specs.Variables.{comm_above}
 use Rattle.mp_pattern.proofs.SortedLaws.{all-sorted}
 use Rattle.mp_table.specs.Table.{terms_at, HasRank, rank_cmp}
@@ -21,17 +17,6 @@ use Rattle.mp_search.specs.declared.site.Site.{Site}
 use Rattle.mp_search.specs.Frames.{above}
 use Rattle.mp_search.specs.Query.{IsQuery}
 use Rattle.mp_search.specs.Site.{IsSite}
-
--- a list that ascends is sorted
-pub sorted-ascends : {X : Type 0} (cmp : X → X → Ordering) → IsTotalOrder cmp → (xs : List X) → Ascends cmp xs
-    → IsSorted cmp xs
-sorted-ascends cmp o [] h k d _ l = absurd (omega (arith, l))
-sorted-ascends cmp o (x ∷ []) h k d _ l = absurd (omega (arith, l))
-sorted-ascends cmp o (x ∷ y ∷ xs) h zero d _ l = not_less-flipped (cmp x y) (cmp y x) (o.antisymm y x) h.0.0
-sorted-ascends cmp o (x ∷ y ∷ xs) h (suc k) d _ l =
-    let e : suc (k + 1) ≡ suc k + 1 = omega arith in
-    subst (λ n. is_lt (cmp (get_or (x ∷ y ∷ xs) n d) (get_or (y ∷ xs) k d)) ≡ false) e
-    (sorted-ascends cmp o (y ∷ xs) h.1 k d (omega arith) (omega (arith, l)))
 
 module _ (q : Query) (x : Site) (h : IsQuery q) (k : IsSite q x) where
   abbrev left : List Tree

@@ -24,7 +24,7 @@ use Rattle.mp_term.specs.Tree.{Tree}
 use Rattle.mp_term.specs.Pieces.{same, is_piece, is_sublist}
 use Rattle.mp_term.proofs.ListLaws.{bool_same}
 use Rattle.mp_term.proofs.PiecesLaws.{length-without, sublist-from_piece}
-use Rattle.mp_term.proofs.Sorting.{Ascends, ascends-sorted, hit}
+use Rattle.mp_term.proofs.Sorting.{Ascends, ascends-sorted, hit, sorted-ascends}
 use Rattle.mp_term.proofs.TestLaws.{equal-from}
 use Rattle.mp_pattern.specs.View.{pattern_tree}
 use Rattle.mp_pattern.specs.Value.{Value, Subst}
@@ -56,7 +56,6 @@ use Rattle.mp_search.specs.Site.{IsSite, site_frame, site_place}
 use Rattle.mp_search.proofs.DrawnLaws.{among-exact}
 use Rattle.mp_search.proofs.LackLaws.{lacking-before}
 use Rattle.mp_search.proofs.MadeLaws.{Draws}
-use Rattle.mp_search.proofs.OpenLaws.{sorted-ascends}
 
 module _ (t : Table) (h : IsTable t) where
   -- a term stands among terms as often as its rank among theirs

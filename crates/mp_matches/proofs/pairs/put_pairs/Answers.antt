@@ -5,9 +5,9 @@ use Rattle.mp_matches.specs.PairsListed.{front_lines, named, pair_line}
 use Rattle.mp_matches.specs.PrintedPairs.{PutsUpTo}
 use Rattle.mp_matches.specs.declared.told.Told.TheVariants as told
 use Rattle.mp_matches.proofs.PairsLaws.{front-ended, front-next, length-pair_line, up_to-line, up_to-more}
-use Rattle.mp_matches.proofs.PutLaws.{Puts-nothing}
 use Rattle.mp_matches.proofs.pairs.put_pairs.Goals as goal
 use Rattle.mp_term.proofs.ListLaws.{all-get}
+use Rattle.mp_io.proofs.WritingLaws.{Puts-nothing}
 
 pub put_pair-requires : goal.put_pair-requires
 put_pair-requires g c =

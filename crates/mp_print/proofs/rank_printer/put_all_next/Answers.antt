@@ -4,11 +4,12 @@ use Rattle.std.specs.Prelude.{codes}
 use Rattle.std.proofs.lemmas.List.{get_or_default, length-map, take_all}
 use Rattle.mp_io.specs.Devices.{Text}
 use Rattle.mp_io.specs.Writing.{Puts}
+use Rattle.mp_io.proofs.WritingLaws.{Puts-nothing}
 use Rattle.mp_table.specs.Table.{term_at}
 use Rattle.mp_table.specs.declared.rank.Rank.{Rank}
 use Rattle.mp_print.specs.KeptTexts.{PutsBut, part_of}
 use Rattle.mp_print.specs.Printing.{preceded, term_text}
-use Rattle.mp_print.proofs.KeptTextLaws.{Puts-nothing, PutsBut-ended, PutsBut-more, PutsBut-then}
+use Rattle.mp_print.proofs.KeptTextLaws.{PutsBut-ended, PutsBut-more, PutsBut-then}
 use Rattle.mp_print.proofs.Separated.{preceded-next}
 use Rattle.mp_print.proofs.rank_printer.put_all_next.Goals as goal
 

@@ -1,6 +1,7 @@
 use Rattle.std.proofs.Common.{[], arith, sym}
-use Rattle.mp_print.proofs.KeptTextLaws.{IsWithin-behind_comma, Puts-nothing}
+use Rattle.mp_print.proofs.KeptTextLaws.{IsWithin-behind_comma}
 use Rattle.mp_print.proofs.rank_printer.put_first.Goals as goal
+use Rattle.mp_io.proofs.WritingLaws.{Puts-nothing}
 
 pub overflow_add-result : goal.overflow_add-result
 overflow_add-result g c =

@@ -1,10 +1,10 @@
 use Rattle.std.proofs.Common.{[], ◌++◌, sym, ap, append-nil, ◌∙◌}
 use Rattle.std.specs.Prelude.{codes}
-use Rattle.mp_io.proofs.WritingLaws.{Puts-then}
+use Rattle.mp_io.proofs.WritingLaws.{Puts-then, Puts-nothing}
 use Rattle.mp_table.specs.Table.{term_at}
 use Rattle.mp_print.specs.KeptTexts.{part_of}
 use Rattle.mp_print.specs.Printing.{term_text}
-use Rattle.mp_print.proofs.KeptTextLaws.{IsWithin-beside, Puts-nothing, part_of-beside, part_of-empty}
+use Rattle.mp_print.proofs.KeptTextLaws.{IsWithin-beside, part_of-beside, part_of-empty}
 use Rattle.mp_print.proofs.rank_printer.put_next_to.Goals as goal
 
 pub returns-in-Some-clause-within : goal.returns-in-Some-clause-within
