@@ -6,7 +6,7 @@ use Rattle.mp_table.specs.Table.{Table, HasRanks}
 use Rattle.mp_search.specs.declared.level.Level.{Level}
 use Rattle.mp_search.specs.Levels.{AreLevels, IsRoomy, IsOver}
 use Rattle.mp_search.specs.Reading.{entry_of, table_of}
-use Rattle.mp_ac.proofs.PicksLaws.{all-at}
+use Rattle.mp_term.proofs.ListLaws.{all-index}
 
 -- what stands at a place in front of a list, and behind its end
 get-front : {X Y : Type 0} (f : X → Y) (xs : List X) (k n : ℕ) (x : X) → n < k → n < length xs
@@ -37,5 +37,5 @@ module _ (t : Table) (k : ℕ) (ls : List Level) (node : ℕ) where
   pub level-ranks : (w : ℕ) (l : Level) → AreLevels t w ls → node < k → k ≤ length ls → l ≡ slice_index_or ls node l
       → HasRanks t l.take.items.items
   level-ranks w l a h m e =
-      (subst (λ k. IsRoomy w k × IsOver t k) (sym e) (all-at (λ k. IsRoomy w k × IsOver t k) ls node l a
+      (subst (λ k. IsRoomy w k × IsOver t k) (sym e) (all-index (λ k. IsRoomy w k × IsOver t k) ls node l a
       (omega (arith, h, m)))).1.0

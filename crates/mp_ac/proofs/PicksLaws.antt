@@ -18,19 +18,6 @@ use Rattle.mp_ac.specs.declared.pick.Pick.{Pick}
 use Rattle.mp_ac.proofs.CandidateLaws.{get-set, part-behind}
 use Rattle.mp_ac.proofs.Parts.{taken-more}
 
--- what holds of each item holds of that at an index, and of all where one is written
-pub all-at : {X : Type 0} (P : X → Type 0) (xs : List X) (i : ℕ) (x : X) → AllByRecursion P xs → i < length xs
-    → P (get_or xs i x)
-all-at P [] i x h less = absurd (omega (arith, less))
-all-at P (y ∷ ys) zero x h less = h.0
-all-at P (y ∷ ys) (suc i) x h less = all-at P ys i x h.1 (omega (arith, less))
-
-pub all-set : {X : Type 0} (P : X → Type 0) (xs : List X) (i : ℕ) (v : X) → AllByRecursion P xs → P v
-    → AllByRecursion P (slice_set xs i v)
-all-set P [] i v h own = tt
-all-set P (x ∷ xs) zero v h own = (own, h.1)
-all-set P (x ∷ xs) (suc i) v h own = (h.0, all-set P xs i v h.1 own)
-
 pub all-drop : {X : Type 0} (P : X → Type 0) (n : ℕ) (xs : List X) → AllByRecursion P xs → AllByRecursion P (drop n xs)
 all-drop P zero xs h = h
 all-drop P (suc n) [] h = tt

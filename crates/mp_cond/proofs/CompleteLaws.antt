@@ -1,6 +1,6 @@
 -- Where each variable of a plan has a value of its form, each condition over the plan's variables is settled.
-use Rattle.std.proofs.Common.{◌≡◌, ℕ, zero, suc, ◌+◌, true, false, ◌||◌, List, [], ◌∷◌, map, refl, ap, sym, ◌∙◌}
-use Rattle.std.proofs.Common.{arith, subst}
+use Rattle.std.proofs.Common.{◌≡◌, ℕ, suc, ◌+◌, true, false, ◌||◌, List, [], ◌∷◌, map, refl, ap, sym, ◌∙◌}
+use Rattle.std.proofs.Common.{arith}
 use Rattle.std.specs.Prelude.{Option, Some, None, option_map, position, slice_get, ◌&&◌}
 use Rattle.std.specs.List.{AllByRecursion, list_all}
 use Rattle.mp_pattern.specs.CondTree.{Operand, var, ground, Cond}
@@ -16,7 +16,7 @@ use Rattle.mp_cond.specs.Verdict.{same_form, is_in_form, is_bound_in_form, is_se
 use Rattle.mp_cond.specs.Complete.{AreFirst, IsComplete}
 use Rattle.mp_cond.proofs.ExtensionLaws.{form_of-value_in}
 use Rattle.mp_cond.proofs.SettledLaws.{with_value, later_value, value_of-bound_at}
-use Rattle.mp_term.proofs.ListLaws.{some-same}
+use Rattle.mp_term.proofs.ListLaws.{some-same, all-get}
 
 -- the place of a known name
 record Found (xs : List Variable) (y : List ℕ) : Type 0 where
@@ -64,13 +64,6 @@ same_form-itself seq_form = refl
 same_form-itself bag_form = refl
 
 module _ (t : Table) (p : Plan) (trail : Trail) (firsts : AreFirst p.variables) (complete : IsComplete t p trail) where
-  -- what holds of each variable holds of the one of a number
-  at_number : (P : Variable → Type 0) (xs : List Variable) (i : ℕ) (x : Variable) → AllByRecursion P xs
-      → slice_get xs i ≡ Some x → P x
-  at_number P [] i x h e = cc
-  at_number P (y ∷ ys) zero x h e = let same : y ≡ x = cc in subst P same h.0
-  at_number P (y ∷ ys) (suc i) x h e = at_number P ys i x h.1 e
-
   -- another variable of the name is the same one
   only : (n : ℕ) (x : Variable) → slice_get p.variables n ≡ Some x → (i : ℕ) (z : Variable)
       → slice_get p.variables i ≡ Some z → same_name x.name z.name ≡ true → n ≡ i
@@ -83,7 +76,7 @@ module _ (t : Table) (p : Plan) (trail : Trail) (firsts : AreFirst p.variables) 
   settled_at n x at = by_bound (last_value trail.stack n) refl
     where
       form : option_map form_of (value_of (subst_in t p.variables trail) x.name) ≡ Some x.form
-      form = at_number (λ v. option_map form_of (value_of (subst_in t p.variables trail) v.name) ≡ Some v.form)
+      form = all-get (λ v. option_map form_of (value_of (subst_in t p.variables trail) v.name) ≡ Some v.form)
           p.variables n x complete at
 
       by_bound : (o : Option Bound) → last_value trail.stack n ≡ o → is_bound_in_form p trail (Some n) ≡ true

@@ -38,12 +38,6 @@ set-same f [] i x d h e = absurd (omega (arith, h))
 set-same f (y ∷ xs) zero x d h e = ap (λ z. z ∷ map f xs) e
 set-same f (y ∷ xs) (suc i) x d h e = ap (λ zs. f y ∷ zs) (set-same f xs i x d (omega (arith, h)) e)
 
-pub all-set : {X : Type 0} (P : X → Type 0) (xs : List X) (i : ℕ) (x : X) → AllByRecursion P xs → P x
-    → AllByRecursion P (slice_set xs i x)
-all-set P [] i x h p = tt
-all-set P (y ∷ xs) zero x h p = (p, h.1)
-all-set P (y ∷ xs) (suc i) x h p = (h.0, all-set P xs i x h.1 p)
-
 pub got-within : {X : Type 0} (xs : List X) (i : ℕ) → slice_get xs i ≡ None → length xs ≤ i
 got-within [] i e = omega arith
 got-within (y ∷ xs) zero e = cc
@@ -58,13 +52,6 @@ pub all-mapped : {X Y : Type 0} (P : Y → Type 0) (f : X → Y) (xs : List X) (
 all-mapped P f [] i d h k = absurd (omega (arith, k))
 all-mapped P f (x ∷ xs) zero d h k = h.0
 all-mapped P f (x ∷ xs) (suc i) d h k = all-mapped P f xs i d h.1 (omega (arith, k))
-
--- within a list the default doesn't matter
-pub no-default : {X : Type 0} (xs : List X) (i : ℕ) (c d : X) → i < length xs
-    → slice_index_or xs i c ≡ slice_index_or xs i d
-no-default [] i c d k = absurd (omega (arith, k))
-no-default (x ∷ xs) zero c d k = refl
-no-default (x ∷ xs) (suc i) c d k = no-default xs i c d (omega (arith, k))
 
 pub rest-whole : {X : Type 0} (xs : List X) → 1 ≤ length xs → take (length xs - 1) (drop 1 xs) ≡ drop 1 xs
 rest-whole [] h = absurd (omega (arith, h))

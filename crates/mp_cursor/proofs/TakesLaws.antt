@@ -13,9 +13,8 @@ use Rattle.mp_table.specs.declared.rank.Rank.{Rank}
 use Rattle.mp_search.specs.declared.level.Level.{Level}
 use Rattle.mp_search.specs.Levels.{AreLevels, IsRoomy, IsOver, take_of, draws_of, rooms_of}
 use Rattle.mp_cursor.specs.Kept.{HaveRoom, AreHeldTakes}
-use Rattle.mp_cursor.proofs.SliceLaws.{all-set}
 use Rattle.mp_subst.proofs.RankLists.{rank_same}
-use Rattle.mp_term.proofs.ListLaws.{drop-at, drop-none, all-index}
+use Rattle.mp_term.proofs.ListLaws.{drop-at, drop-none, all-index, all-set}
 
 pub room-lengths : (ns : List ℕ) (ts : List (List Rank × Bool)) → HaveRoom ns ts → length ns ≡ length ts
 room-lengths [] [] h = refl

@@ -10,7 +10,7 @@ use Rattle.std.proofs.lemmas.Slice.Eq.{bytes_eq-Decides}
 use Rattle.mp_term.specs.Listing.{In}
 use Rattle.mp_term.specs.Names.{are_distinct}
 use Rattle.mp_term.specs.Signature.{Sig}
-use Rattle.mp_term.proofs.ListingLaws.{all_in}
+use Rattle.mp_term.proofs.ListingLaws.{all_in, list_all-in}
 use Rattle.mp_term.proofs.ListLaws.{all-split}
 use Rattle.mp_term.proofs.SearchLaws.{in-right, in-flat, in-map, from_in-append, all-map}
 use Rattle.mp_pattern.specs.declared.limits.TheConstants.{MAX_VARIABLES}
@@ -27,7 +27,7 @@ use Rattle.mp_program.specs.FormText.{line_of_rule}
 use Rattle.mp_program.specs.FormFaults.{faults_along, rule_faults, unused_faults}
 use Rattle.mp_program.specs.ProgramOf.{renamed_cond, same_cond, spelled_test, rule_of}
 use Rattle.mp_program.proofs.FaultLaws.{HasFineNames}
-use Rattle.mp_program.proofs.ListLaws.{list_any-none, list_all-in}
+use Rattle.mp_program.proofs.ListLaws.{list_any-none}
 use Rattle.mp_program.proofs.TestLaws.{spelled_tests}
 use Rattle.mp_program_laws.proofs.SpelledTests as lines
 use Rattle.mp_program_laws.proofs.SpelledTests.{IsSpelling, spelled_of}

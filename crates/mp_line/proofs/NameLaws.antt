@@ -2,25 +2,20 @@
 use Rattle.std.proofs.Common.{◌≡◌, ◌≤◌, ◌<◌, ℕ, Bool, true, false, List, [], ◌∷◌, ◌++◌, length, take, refl, sym, ap}
 use Rattle.std.proofs.Common.{◌∙◌}
 use Rattle.std.proofs.Common.{arith}
-use Rattle.std.specs.Prelude.{nat_eq, nat_le, ◌&&◌, ◌||◌}
+use Rattle.std.specs.Prelude.{nat_eq, ◌&&◌, ◌||◌}
 use Rattle.std.specs.List.{list_all, list_any}
 use Rattle.std.proofs.lemmas.Bool.{and_parts, eqb-true}
 use Rattle.std.proofs.lemmas.List.{length-append, length-take, take_all, take-append-le}
 use Rattle.mp_io.specs.Devices.{Text}
-use Rattle.mp_term.specs.declared.limits.TheConstants.{MAX_NAME_BYTES}
 use Rattle.mp_term.specs.Names.{is_name, is_name_byte}
+use Rattle.mp_term.proofs.NameLaws.{name_bytes}
 use Rattle.mp_line.specs.Finds.{IsOnly}
 use Rattle.mp_line.specs.LineTexts.{IsName, IsNameText}
 use Rattle.mp_line.specs.Words.{IsWithout, is_letter_or_blank}
 
--- the bytes of a name
-pub bytes-of : (x : Text) → IsName x → list_all is_name_byte x ≡ true
-bytes-of x h =
-    (and_parts (nat_le 1 (length x) && nat_le (length x) MAX_NAME_BYTES) (list_all is_name_byte x) h).1
-
 -- are letters and digits
 pub letters-of : (x : Text) → IsName x → list_all is_letter_or_blank x ≡ true
-letters-of x h = go x (bytes-of x h)
+letters-of x h = go x (name_bytes x h)
   where
     go : (x : Text) → list_all is_name_byte x ≡ true → list_all is_letter_or_blank x ≡ true
     go [] h = refl
@@ -30,7 +25,7 @@ letters-of x h = go x (bytes-of x h)
 
 -- and no blanks
 pub bare-name : (x : Text) → IsName x → IsWithout 32 x
-bare-name x h = go x (bytes-of x h)
+bare-name x h = go x (name_bytes x h)
   where
     other : (c : ℕ) → is_name_byte c ≡ true → (v : Bool) → nat_eq c 32 ≡ v → nat_eq c 32 ≡ false
     other c h false e = e

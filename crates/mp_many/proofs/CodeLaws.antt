@@ -18,8 +18,9 @@ use Rattle.mp_many.specs.Laid.{numbered_from}
 use Rattle.mp_many.specs.Prefixes.{heads}
 use Rattle.mp_many.specs.TokenView.{read_token}
 use Rattle.mp_many.proofs.GroupLaws.{AreWithin, numbers_after, left-numbers, numbers-within}
-use Rattle.mp_many.proofs.RowLaws.{get_or-same, drop-next, entered-pass, entered-at, pushed, target-more}
+use Rattle.mp_many.proofs.RowLaws.{drop-next, entered-pass, entered-at, pushed, target-more}
 use Rattle.mp_many.proofs.RowLaws.{laid-step}
+use Rattle.mp_term.proofs.ListLaws.{get_or-same}
 
 -- ---- groups
 

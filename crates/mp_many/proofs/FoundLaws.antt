@@ -247,5 +247,3 @@ pub same-number : (item : Option (ℕ × Table)) (a b : ℕ) → IsSome item →
     → IfSome item (λ i. b ≡ i.0) → a ≡ b
 same-number None a b s h k = cc
 same-number (Some i) a b s h k = h ∙ sym k
-
--- ---- tables and answers

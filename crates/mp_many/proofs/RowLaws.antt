@@ -16,11 +16,6 @@ use Rattle.mp_many.proofs.GroupLaws.{AreWithin}
 
 -- ---- one list more
 
-pub get_or-same : {X : Type 0} (xs : List X) (n : ℕ) (d e : X) → n < length xs → get_or xs n d ≡ get_or xs n e
-get_or-same [] n d e h = absurd (omega (arith, h))
-get_or-same (x ∷ xs) zero d e h = refl
-get_or-same (x ∷ xs) (suc n) d e h = get_or-same xs n d e (omega (arith, h))
-
 pub drop-next : {X : Type 0} (xs : List X) (i : ℕ) (d : X) → i < length xs → drop i xs ≡ get_or xs i d ∷ drop (i + 1) xs
 drop-next xs i d h = let e : suc i ≡ i + 1 = omega arith in
     drop-cons xs i d h ∙ ap (λ j. get_or xs i d ∷ drop j xs) e

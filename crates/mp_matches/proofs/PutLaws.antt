@@ -33,7 +33,7 @@ cut_off-front text front rest out split cut rose = (
 module _ {K : Type 0} (words : SinkWords K) where
   -- nothing is a front of each text
   pub PutsFront-nothing : (w : Writer K) (text : Text) → PutsFront words w w text
-  PutsFront-nothing w text = record { front = []; rest = text; split = refl; puts = Puts-nothing w }
+  PutsFront-nothing w text = record { front = []; rest = text; split = refl; puts = Puts-nothing words w }
 
   -- a text is a front of itself
   pub PutsFront-all : (u w : Writer K) (text : Text) → Puts words u w text → PutsFront words u w text
@@ -60,7 +60,7 @@ module _ {K : Type 0} (words : SinkWords K) where
 
   -- nothing is put at first
   pub put_so_far-first : (whole : Text × Option Left) (w : Writer K) → IsPutSoFar whole whole w w false
-  put_so_far-first whole w = record { text = []; split = refl; puts = Puts-nothing w; some = refl }
+  put_so_far-first whole w = record { text = []; split = refl; puts = Puts-nothing words w; some = refl }
 
   -- a front of the whole is put
   pub put_so_far-front : (whole rest : Text × Option Left) (u w : Writer K) (any : Bool)

@@ -9,6 +9,7 @@ use Rattle.mp_term.proofs.ListLaws.{all-append, all-also}
 use Rattle.mp_pattern.specs.PatternTree.{Pattern, symbol_pattern, app_pattern, wild_pattern, Patterns, no_patterns}
 use Rattle.mp_pattern.specs.PatternTree.{more_patterns, pattern_list}
 use Rattle.mp_pattern.specs.Size.{pattern_nodes, all_pattern_nodes}
+use Rattle.mp_pattern.proofs.OnePattern.{has_nodes}
 use Rattle.mp_net.specs.Net as net
 use Rattle.mp_net.specs.View.{mark_of, open_of}
 use Rattle.mp_net.specs.Items.{opens, items_from, first_of}
@@ -153,15 +154,10 @@ starts-short ms i zero a = tt
 starts-short ms i (suc n) a = (held-short ms i a, starts-short ms (suc i) n a)
 
 mutual
-  nodes-some : (p : Pattern) → 1 ≤ pattern_nodes p
-  nodes-some (symbol_pattern n) = omega arith
-  nodes-some (app_pattern f ps) = omega arith
-  nodes-some (wild_pattern w x) = omega arith
-
   -- a pattern in a list is a node at least
   length-patterns : (ps : Patterns) → length (pattern_list ps) ≤ all_pattern_nodes ps
   length-patterns no_patterns = omega arith
-  length-patterns (more_patterns p ps) = let a = nodes-some p in let b = length-patterns ps in omega (arith, a, b)
+  length-patterns (more_patterns p ps) = let a = has_nodes p in let b = length-patterns ps in omega (arith, a, b)
 
 mutual
   -- few nodes have few arguments each

@@ -10,7 +10,7 @@ use Rattle.std.proofs.lemmas.List.Sums.{sum_by-cons}
 use Rattle.std.proofs.lemmas.Bool.{and_parts, and_from}
 use Rattle.mp_term.specs.OrderLaws.{nats_same}
 use Rattle.mp_term.specs.Search.{In}
-use Rattle.mp_term.proofs.ListingLaws.{in-from_contains, contains-from_in}
+use Rattle.mp_term.proofs.ListingLaws.{in-from_contains, contains-from_in, list_all-in}
 use Rattle.mp_choice.specs.Listed.{number_lists, IsFirst, HasNone, IsNext, IsLast}
 use Rattle.mp_choice.proofs.Lexicographic.{lex, less_head, less_tail, less_cases}
 use Rattle.mp_choice.proofs.Listed.{in-number_lists, listing-distinct}
@@ -62,12 +62,6 @@ all_true : (p : ℕ → Bool) → ((x : ℕ) → p x ≡ true) → (xs : List �
 all_true p h [] = refl
 all_true p h (x ∷ xs) = and_from _ _ (h x) (all_true p h xs)
 
--- a test that each of a list passes is passed by one of them
-true_in : (p : ℕ → Bool) (xs : List ℕ) (x : ℕ) → list_all p xs ≡ true → In x xs → p x ≡ true
-true_in p [] x h i = absurd i
-true_in p (y ∷ ys) x h (inl e) = ap p e ∙ (and_parts (p y) (list_all p ys) h).0
-true_in p (y ∷ ys) x h (inr i) = true_in p ys x (and_parts (p y) (list_all p ys) h).1 i
-
 -- a class isn't in the list, or it is one of it
 none_or_in : (class : ℕ) (xs : List ℕ) → (count_by (λ c. c == class) xs ≡ 0) ⊎ In class xs
 none_or_in class [] = inl refl
@@ -92,7 +86,7 @@ within_from cs choice h class = made (none_or_in class choice)
         → count_by (λ c. c == class) choice ≤ slice_index cs class
     made (inl z) = omega arith
     made (inr i) = le_from-nat_le (count_by (λ c. c == class) choice) (slice_index cs class)
-        (true_in (λ d. nat_le (count_by (λ c. c == d) choice) (slice_index cs d)) choice class h i)
+        (list_all-in (λ d. nat_le (count_by (λ c. c == d) choice) (slice_index cs d)) choice class h i)
 
 -- the value is the list of all pairings
 pub pairings_of-listing : (cs : List ℕ) (left : List (List ℕ)) → ArePairings cs left (pairings_of cs left)

@@ -8,6 +8,7 @@ use Rattle.std.proofs.lemmas.List.Folds.{list_any-append}
 use Rattle.std.proofs.lemmas.List.Quantifiers.{position-Some}
 use Rattle.mp_term.specs.Signature.{Sig}
 use Rattle.mp_term.proofs.SignatureLaws.{is_some-position}
+use Rattle.mp_term.proofs.ListLaws.{all-split}
 use Rattle.mp_pattern.specs.PatternTree.{Wildcard, Pattern, symbol_pattern, app_pattern, wild_pattern, Patterns}
 use Rattle.mp_pattern.specs.PatternTree.{no_patterns, more_patterns}
 use Rattle.mp_pattern.specs.Size.{pattern_nodes, all_pattern_nodes}
@@ -66,10 +67,6 @@ occurrences_among ys (u ∷ us) = (
   among-firsts_after u.name (add_new same_name ys u.name) (map (λ u. u.name) us) (added u.name ys),
   occurrences_among (add_new same_name ys u.name) us,
 )
-
-among-parts : (xs : List (List ℕ)) (us vs : List Use) → AreAmong xs (us ++ vs) → AreAmong xs us × AreAmong xs vs
-among-parts xs [] vs h = (tt, h)
-among-parts xs (u ∷ us) vs h = let k = among-parts xs us vs h.1 in ((h.0, k.0), k.1)
 
 -- the number of a name that is there gives it back
 numbered : (xs : List (List ℕ)) (x : List ℕ) → IsAmong xs x → (k : ℕ) × (position (same_name x) xs ≡ Some k)
@@ -147,8 +144,8 @@ module _ (xs : List (List ℕ)) where
     all_nodes-same no_patterns (more_patterns q qs) f g m n r s h k c e = absurd (omega (arith, has_nodes q, c))
     all_nodes-same (more_patterns p ps) no_patterns f g m n r s h k c e = absurd (omega (arith, has_nodes p, c))
     all_nodes-same (more_patterns p ps) (more_patterns q qs) f g m n r s h k c e =
-        let hs = among-parts xs (uses f p) (all_uses f ps) h in
-        let ks = among-parts xs (uses g q) (all_uses g qs) k in
+        let hs = all-split (λ u. IsAmong xs u.name) (uses f p) (all_uses f ps) h in
+        let ks = all-split (λ u. IsAmong xs u.name) (uses g q) (all_uses g qs) k in
         let one = nodes-same p q f g (Some m) n (all_nodes xs m (n + pattern_nodes p) ps ++ r)
         (all_nodes xs m (n + pattern_nodes q) qs ++ s) hs.0 ks.0
         (sym (append_assoc (nodes xs (Some m) n p) (all_nodes xs m (n + pattern_nodes p) ps) r) ∙ e

@@ -37,8 +37,6 @@ use Rattle.mp_round_trip.proofs.SpelledTerm.{HasNames-term_spelling, Fits-term_s
 use Rattle.mp_round_trip.proofs.SpelledDeclarations.{number-written, name-written}
 use Rattle.mp_round_trip.proofs.ScopedCondition.{HasScopedCondition}
 
--- ---- how many brackets stand open at once
-
 -- ---- a condition that is read
 
 -- what is in brackets, perhaps behind `not`

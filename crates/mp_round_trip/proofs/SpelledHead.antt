@@ -26,8 +26,6 @@ use Rattle.mp_round_trip.specs.Spelled.{piece, application_spelling, held_spelli
 use Rattle.mp_text.proofs.DeclaredParts.{IsSomeSign, HasOpNames}
 use Rattle.mp_build.proofs.Words.{first-of, second-of}
 
--- ---- items of a list
-
 -- ---- operations that don't clash
 
 -- a test that an operation passes, and no operation that doesn't clash with it

@@ -11,6 +11,7 @@ use Rattle.mp_term.specs.Size.{node_count, node_counts, all_nodes}
 use Rattle.mp_term.specs.Tree.{Tree, symbol, app, Trees, no_trees, more_trees, tree_list, trees}
 use Rattle.mp_term.specs.TreeLists.{trees-tree_list}
 use Rattle.mp_term.proofs.SearchLaws.{in-left, in-right, from_in-append}
+use Rattle.mp_term.proofs.ListLaws.{get_or-front}
 use Rattle.mp_table.specs.Preorder.{preorder, preorders, all_preorder}
 use Rattle.mp_table.specs.Subterms.{IsSubterm, IsSubtermOf, arguments}
 
@@ -38,16 +39,11 @@ mutual
 abbrev pub Begins : List Tree → ℕ → Tree → Type 0
 Begins os i d = (rest : List Tree) × (drop i os ≡ preorder (get_or os i d) ++ rest)
 
-get_or-left : (xs ys : List Tree) (i : ℕ) (d : Tree) → i < length xs → get_or (xs ++ ys) i d ≡ get_or xs i d
-get_or-left [] ys i d h = absurd (omega arith)
-get_or-left (x ∷ xs) ys zero d h = refl
-get_or-left (x ∷ xs) ys (suc i) d h = get_or-left xs ys i d (omega arith)
-
 begins_left : (xs ys : List Tree) (i : ℕ) (d : Tree) → i < length xs → Begins xs i d → Begins (xs ++ ys) i d
 begins_left xs ys i d h b = (
   b.0 ++ ys,
   drop-append-le i xs ys (omega arith) ∙ ap (λ l. l ++ ys) b.1 ∙ append_assoc (preorder (get_or xs i d)) b.0 ys
-      ∙ ap (λ t. preorder t ++ (b.0 ++ ys)) (sym (get_or-left xs ys i d h)),
+      ∙ ap (λ t. preorder t ++ (b.0 ++ ys)) (sym (get_or-front xs ys i d h)),
 )
 
 drop-right : (xs ys : List Tree) (n : ℕ) → drop (length xs + n) (xs ++ ys) ≡ drop n ys

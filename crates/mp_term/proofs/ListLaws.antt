@@ -1,7 +1,7 @@
 -- What holds of each item of a list, the item at an index, and tests that are the same.
 use Rattle.std.proofs.Common.{◌≡◌, ℕ, zero, suc, subst, ◌+◌, ◌<◌, List, [], ◌∷◌, ◌++◌, map, length, get_or, take, drop}
 use Rattle.std.proofs.Common.{drop-cons, add-one, arith, Bool, true, false, refl, ap, sym, ◌∙◌, ◌⊎◌, inl, inr}
-use Rattle.std.specs.Prelude.{flat_map, Some, None, slice_get, slice_index_or}
+use Rattle.std.specs.Prelude.{flat_map, Some, None, slice_get, slice_index_or, slice_set}
 use Rattle.std.specs.List.{AllByRecursion, list_all}
 use Rattle.std.proofs.lemmas.Bool.{and_parts}
 use Rattle.std.proofs.lemmas.List.{map-append, take-map, drop-map}
@@ -105,6 +105,24 @@ pub all-index : {X : Type 0} (P : X → Type 0) (xs : List X) (i : ℕ) (d : X) 
 all-index P [] i d h k = absurd (omega (arith, k))
 all-index P (y ∷ xs) zero d h k = h.0
 all-index P (y ∷ xs) (suc i) d h k = all-index P xs i d h.1 (omega (arith, k))
+
+-- and of each where an item is written of which it holds
+pub all-set : {X : Type 0} (P : X → Type 0) (xs : List X) (i : ℕ) (x : X) → AllByRecursion P xs → P x
+    → AllByRecursion P (slice_set xs i x)
+all-set P [] i x h own = tt
+all-set P (y ∷ xs) zero x h own = (own, h.1)
+all-set P (y ∷ xs) (suc i) x h own = (h.0, all-set P xs i x h.1 own)
+
+-- within a list neither the default matters nor what stands behind
+pub get_or-same : {X : Type 0} (xs : List X) (i : ℕ) (c d : X) → i < length xs → get_or xs i c ≡ get_or xs i d
+get_or-same [] i c d h = absurd (omega (arith, h))
+get_or-same (x ∷ xs) zero c d h = refl
+get_or-same (x ∷ xs) (suc i) c d h = get_or-same xs i c d (omega (arith, h))
+
+pub get_or-front : {X : Type 0} (xs ys : List X) (i : ℕ) (d : X) → i < length xs → get_or (xs ++ ys) i d ≡ get_or xs i d
+get_or-front [] ys i d h = absurd (omega arith)
+get_or-front (x ∷ xs) ys zero d h = refl
+get_or-front (x ∷ xs) ys (suc i) d h = get_or-front xs ys i d (omega arith)
 
 -- two lists of which nothing comes are empty
 pub both-empty : {X : Type 0} (xs ys : List X) → xs ++ ys ≡ [] → (xs ≡ []) × (ys ≡ [])

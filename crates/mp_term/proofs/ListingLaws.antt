@@ -1,12 +1,13 @@
 -- Members of lists, and ascending lists: a fact has one listing in a total order.
 use Rattle.std.proofs.Common.{◌≡◌, zero, suc, ◌<◌, ℕ, List, [], ◌∷◌, refl, sym, ap, ◌∙◌, inl, inr, subst, length}
-use Rattle.std.proofs.Common.{get_or, arith}
+use Rattle.std.proofs.Common.{get_or, arith, Bool, true}
 use Rattle.std.specs.Prelude.{Contains, Some, slice_get}
 use Rattle.std.specs.declared.cmp.Ordering.{Ordering}
 use Rattle.std.specs.declared.cmp.Ordering.TheVariants.{Less, Equal}
 use Rattle.std.specs.Cmp.{IsTotalOrder}
-use Rattle.std.specs.List.{AllByRecursion}
+use Rattle.std.specs.List.{AllByRecursion, list_all}
 use Rattle.std.specs.List.Sorted.{IsStrictlySortedBy}
+use Rattle.std.proofs.lemmas.Bool.{and_parts}
 use Rattle.std.proofs.lemmas.Cmp.{tied_itself}
 use Rattle.mp_term.specs.Listing.{In, IsListing}
 
@@ -35,6 +36,13 @@ pub all_in : {X : Type 0} (P : X → Type 0) (xs : List X) (x : X) → AllByRecu
 all_in P [] x h i = absurd i
 all_in P (y ∷ ys) x h (inl e) = subst P (sym e) h.0
 all_in P (y ∷ ys) x h (inr i) = all_in P ys x h.1 i
+
+-- a test that all items pass is passed by a member
+pub list_all-in : {X : Type 0} (test : X → Bool) (xs : List X) (x : X) → list_all test xs ≡ true → In x xs
+    → test x ≡ true
+list_all-in test [] x h i = absurd i
+list_all-in test (y ∷ xs) x h (inl e) = ap test e ∙ (and_parts (test y) (list_all test xs) h).0
+list_all-in test (y ∷ xs) x h (inr i) = list_all-in test xs x (and_parts (test y) (list_all test xs) h).1 i
 
 module _ {X : Type 0} (cmp : X → X → Ordering) (o : IsTotalOrder cmp) where
   -- nothing is less than itself, nor less both ways

@@ -1,12 +1,13 @@
--- Names that differ are found where they stand.
+-- Names that differ are found where they stand, and the bytes of names.
 use Rattle.std.proofs.Common.{◌≡◌, ℕ, zero, suc, ◌+◌, Bool, true, false, not, List, [], ◌∷◌, Option, Some, None, refl}
 use Rattle.std.proofs.Common.{sym, ap, subst, ◌∙◌, add-one}
-use Rattle.std.specs.Prelude.{slice_get, option_map, position}
+use Rattle.std.specs.Prelude.{◌&&◌, nat_le, length, slice_get, option_map, position}
 use Rattle.std.specs.List.{list_all}
 use Rattle.std.specs.Str.{bytes_eq}
 use Rattle.std.proofs.lemmas.Bool.{not-true, and_parts}
 use Rattle.std.proofs.lemmas.Slice.Eq.{bytes_eq-Decides}
-use Rattle.mp_term.specs.Names.{are_distinct}
+use Rattle.mp_term.specs.declared.limits.TheConstants.{MAX_NAME_BYTES}
+use Rattle.mp_term.specs.Names.{are_distinct, is_name, is_name_byte}
 use Rattle.mp_term.proofs.ListLaws.{all-at}
 use Rattle.mp_term.proofs.SignatureLaws.{position-behind, position-first}
 
@@ -47,3 +48,8 @@ position-name name (n ∷ names) k h = by_test (bytes_eq name n) refl (position-
         subst (λ i. slice_get (n ∷ names) i ≡ Some name) here (ap Some (sym ((bytes_eq-Decides name n).0 e)))
     by_test false e ih = at (position (bytes_eq name) names) refl
         (sym (position-behind (bytes_eq name) n names e) ∙ h) ih
+
+-- the bytes of a name are those that names have
+pub name_bytes : (name : List ℕ) → is_name name ≡ true → list_all is_name_byte name ≡ true
+name_bytes name h =
+    (and_parts (nat_le 1 (length name) && nat_le (length name) MAX_NAME_BYTES) (list_all is_name_byte name) h).1

@@ -25,6 +25,12 @@ Refines (bag ts) (bag us) = ts ≡ us
 Refines (bag ts) (seq us) = ts ≡ sorted tree_cmp us
 Refines _ _ = ⊥
 
+-- a value that agrees with one term is that term
+pub refined_one : (t : Tree) (v : Value) → Refines (one t) v → v ≡ one t
+refined_one t (one u) r = ap one (sym r)
+refined_one t (seq m) r = absurd r
+refined_one t (bag m) r = absurd r
+
 -- a multiset ascends
 abbrev pub IsArranged : Value → Type 0
 IsArranged (bag ts) = sorted tree_cmp ts ≡ ts

@@ -24,7 +24,7 @@ use Rattle.mp_pattern.proofs.NameLaws.{same_name-is, same_name-itself}
 use Rattle.mp_theory.specs.Solve.{contributor, given, solve}
 use Rattle.mp_pattern.specs.EachWildcard.{EachWildcard, AllEachWildcard}
 use Rattle.mp_theory.specs.NoOptional.{IsNotOptional}
-use Rattle.mp_theory.proofs.Merging.{Refines}
+use Rattle.mp_theory.proofs.Merging.{Refines, refined_one}
 use Rattle.mp_theory.proofs.SolveLaws.{Obeys}
 use Rattle.mp_theory.proofs.Solving.{GivesFinal, solved-by, solution}
 use Rattle.mp_theory.proofs.Wildcards.{final-passes}
@@ -207,13 +207,6 @@ module _ (sig : Sig) where
             obeys = all-append (Obeys sig s) (takings (Some g) p i.term) (all_takings g ps j.terms) i.obeys j.obeys;
           }
 
-    -- a value that agrees with one term is that term
-    refined_one : (t : Tree) (v : Value) → Refines (one t) v → v ≡ one t
-    refined_one t (one u) r = ap one (sym r)
-    refined_one t (seq m) r = absurd r
-    refined_one t (bag m) r = absurd r
-
-    -- and back
     named-held : (x : List ℕ) (t : Tree) (v w : Value) → Some v ≡ Some (one t) → value_of s x ≡ Some w → Refines v w
         → value_of s x ≡ Some (one t)
     named-held x t v w e h r =

@@ -24,7 +24,7 @@ use Rattle.mp_pattern.specs.Contribution.{contribution, spread, if_several}
 use Rattle.mp_pattern.specs.Fits.{WildTakes, IsContributed, UnnamedTakes}
 use Rattle.mp_pattern.specs.Holds.{is_bag}
 use Rattle.mp_theory.specs.Solve.{is_alone, contributor, sequence, of_kind, given}
-use Rattle.mp_theory.proofs.Merging.{Refines, sorted-sorted, from_if}
+use Rattle.mp_theory.proofs.Merging.{Refines, sorted-sorted, from_if, refined_one}
 use Rattle.mp_theory.proofs.SolveLaws.{contribution-found}
 use Rattle.mp_theory.specs.Machine.{default_passes}
 use Rattle.mp_theory.proofs.Cuts.{put}
@@ -252,12 +252,6 @@ module _ (sig : Sig) where
         }
         | false ↦ λ q p. cc
       ] refl e
-
-  -- the final value of one term is that term
-  refined_one : (t : Tree) (v : Value) → Refines (one t) v → v ≡ one t
-  refined_one t (one u) r = ap one (sym r)
-  refined_one t (seq m) r = absurd r
-  refined_one t (bag m) r = absurd r
 
   -- the final values of a sequence
   sequence_takes : (b : Bool) (l : List Tree) (v : Value) → put b l ≡ l → Refines (if b then bag l else seq l) v

@@ -1,11 +1,10 @@
 -- The names at the front of a token's text.
 use Rattle.std.proofs.Common.{◌≡◌, ℕ, [], ◌∷◌, ◌++◌, List, true, refl, ap, sym, ◌∙◌, subst}
-use Rattle.std.specs.Prelude.{◌&&◌, nat_le, length}
 use Rattle.std.specs.List.{list_all}
 use Rattle.std.proofs.lemmas.Bool.{and_parts}
 use Rattle.mp_io.specs.Devices.{Text}
 use Rattle.mp_term.specs.Names.{is_name, is_name_byte}
-use Rattle.mp_term.specs.declared.limits.TheConstants.{MAX_NAME_BYTES}
+use Rattle.mp_term.proofs.NameLaws.{name_bytes}
 use Rattle.mp_token.specs.Entry.{Entry}
 use Rattle.mp_token.specs.TokenText.{entries_text, front_text}
 
@@ -31,10 +30,6 @@ before_slash-same (a ∷ m) (b ∷ n) xs ys p q e =
     let rest = before_slash-same m n xs ys (and_parts (is_name_byte a) (list_all is_name_byte m) p).1
     (and_parts (is_name_byte b) (list_all is_name_byte n) q).1 behind in
     (ap (λ c. c ∷ m) first ∙ ap (λ l. b ∷ l) rest.0, rest.1)
-
--- the bytes of a name
-name_bytes : (n : Text) → is_name n ≡ true → list_all is_name_byte n ≡ true
-name_bytes n h = (and_parts (nat_le 1 (length n) && nat_le (length n) MAX_NAME_BYTES) (list_all is_name_byte n) h).1
 
 -- the text of a token decides its names, and the text of its entries
 pub front_text-same : (subject rule subject' rule' : Text) (es es' : List Entry) → is_name subject ≡ true

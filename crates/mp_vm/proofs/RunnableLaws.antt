@@ -10,7 +10,7 @@ use Rattle.mp_io.specs.Devices.{Text}
 use Rattle.mp_term.specs.Listing.{In}
 use Rattle.mp_term.specs.Signature.{Sig}
 use Rattle.mp_term.proofs.ListLaws.{all-also, all-append, both-empty}
-use Rattle.mp_term.proofs.ListingLaws.{all_in, place-in}
+use Rattle.mp_term.proofs.ListingLaws.{all_in, place-in, list_all-in}
 use Rattle.mp_term.proofs.SearchLaws.{from_in-append, from_in-flat}
 use Rattle.mp_pattern.specs.CondTree.{Cond}
 use Rattle.mp_pattern.specs.declared.limits.TheConstants.{MAX_PATTERN_NODES, MAX_VARIABLES}
@@ -45,7 +45,6 @@ use Rattle.mp_program.specs.Reading.{IsValid}
 use Rattle.mp_program.specs.RightForm.{IsRightWildcard, IsRightToken, IsRightAction, IsRightInstr, IsRightCond}
 use Rattle.mp_program.specs.RightForm.{IsRightTest, IsRightRuleTest, IsRightRule, IsRightForm}
 use Rattle.mp_program.specs.TokenPaths.{is_right_path, open_along, is_balanced, may_accept}
-use Rattle.mp_program.proofs.ListLaws.{list_all-in}
 use Rattle.mp_vm.specs.Runnable.{EachOfToken, HasSmallOperands, IsRunnable}
 use Rattle.mp_vm.proofs.Decoded.{LeavesOpen, leaves-open}
 use Rattle.mp_vm.proofs.LeadLaws.{all_leads, target-bounds, IsPlaced, placed, stable, all_leads-to, good-leads}

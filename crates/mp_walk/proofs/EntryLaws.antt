@@ -18,7 +18,7 @@ use Rattle.mp_pattern.specs.NetTokens.{NetToken, sym_token, enter_token, leave_t
 use Rattle.mp_pattern.specs.NetTokenView.{net_token}
 use Rattle.mp_pattern.proofs.ItemLaws.{slice_get-found, slice_get-second}
 use Rattle.mp_table.specs.declared.rank.Rank.{Rank}
-use Rattle.mp_table.specs.Table.{Table, HasRanks, terms_at}
+use Rattle.mp_table.specs.Table.{Table, terms_at}
 use Rattle.mp_subst.specs.Trail.{Trail}
 use Rattle.mp_ac.specs.declared.search.CommSearch.{CommSearch}
 use Rattle.mp_ac.specs.Search.{IsOver, table_of}
@@ -111,12 +111,7 @@ own-front (Star x) f way a b c d = refl
 own-front (Opt x t) f way a b c d = refl
 own-front (Counted n fixed x) f way a b c d = refl
 
--- the ranks of a front are the table's, and stand for its terms
-pub ranks-front : (t : Table) (n : ℕ) (rs : List Rank) → HasRanks t rs → HasRanks t (take n rs)
-ranks-front t zero rs h = tt
-ranks-front t (suc n) [] h = tt
-ranks-front t (suc n) (r ∷ rs) h = (h.0, ranks-front t n rs h.1)
-
+-- the ranks of a front stand for its terms
 pub read-front : (t : Table) (n : ℕ) (rs : List Rank) (left : List Tree) (front : List Rank) → terms_at t rs ≡ left
     → front ≡ take n rs → front_entry left n ∷ [] ≡ entry_read t (front, false) ∷ []
 read-front t n rs left front e is =

@@ -1,25 +1,17 @@
 -- Pairs that ascend as they are found.
-use Rattle.std.proofs.Common.{◌≡◌, ◌<◌, ℕ, zero, suc, List, [], ◌∷◌, ◌++◌, length, get_or}
+use Rattle.std.proofs.Common.{◌≡◌, ℕ, zero, suc, List, [], ◌∷◌, ◌++◌, length, get_or}
 use Rattle.std.proofs.Common.{arith, sym, ap, ◌∙◌, Bool, subst}
 use Rattle.std.specs.Prelude.{◌↔◌, Contains, IsTrue}
-use Rattle.std.specs.List.{AllByRecursion}
 use Rattle.std.specs.List.Sorted.{IsStrictlySortedBy}
 use Rattle.std.specs.declared.cmp.Ordering.TheVariants.{Less}
 use Rattle.std.proofs.lemmas.List.{get_or-map, length-map, map_push}
-use Rattle.mp_term.proofs.ListLaws.{all-append}
+use Rattle.mp_term.proofs.ListLaws.{all-append, all-index}
 use Rattle.mp_pattern.specs.Lists.{Pair}
 use Rattle.mp_table.specs.Table.{Table}
 use Rattle.mp_walk.specs.Found.{found_cmp}
 use Rattle.mp_walk.specs.FoundOrder.{found_cmp_total}
 use Rattle.mp_walk.specs.Ranked.{Ranked, ranked_cmp, pairs_of, AreOver}
 use Rattle.mp_walk.proofs.FoundLaws.{contains-pushed}
-
--- what holds of all holds of that at a place
-at-place : (P : Pair → Type 0) (ps : List Pair) (n : ℕ) (d : Pair) → AllByRecursion P ps → n < length ps
-    → P (get_or ps n d)
-at-place P [] n d h k = absurd (omega (arith, k))
-at-place P (p ∷ ps) zero d h k = h.0
-at-place P (p ∷ ps) (suc n) d h k = at-place P ps n d h.1 (omega (arith, k))
 
 -- a pair behind the last one that is greater keeps them ascending
 pub ascends-push : (ps : List Pair) (n : ℕ) (d q : Pair) → length ps ≡ suc n → found_cmp (get_or ps n d) q ≡ Less
@@ -30,7 +22,7 @@ ascends-push (p ∷ []) zero d q e l h = ((l, tt), (tt, tt))
 ascends-push (p ∷ []) (suc n) d q e l h = absurd (omega (arith, e))
 ascends-push (p ∷ r ∷ ps) zero d q e l h = absurd (omega (arith, e))
 ascends-push (p ∷ r ∷ ps) (suc n) d q e l h =
-    let below = at-place (λ z. found_cmp p z ≡ Less) (r ∷ ps) n d h.0 (omega (arith, e)) in (
+    let below = all-index (λ z. found_cmp p z ≡ Less) (r ∷ ps) n d h.0 (omega (arith, e)) in (
       all-append (λ z. found_cmp p z ≡ Less) (r ∷ ps) (q ∷ []) h.0
           (found_cmp_total.trans p (get_or (r ∷ ps) n d) q below l, tt),
       ascends-push (r ∷ ps) n d q (omega (arith, e)) l h.1,

@@ -4,17 +4,11 @@ use Rattle.std.proofs.Common.{◌∙◌, arith, subst}
 use Rattle.std.specs.Prelude.{Option, Some, None, slice_get, slice_index_or}
 use Rattle.std.proofs.lemmas.List.{length-append, length-take, append_assoc, take-append-drop}
 use Rattle.mp_term.specs.Signature.{Sig}
+use Rattle.mp_term.proofs.ListLaws.{get_or-front}
 use Rattle.mp_table.specs.Table.{Table}
 use Rattle.mp_walk.specs.declared.frame.Frame.{Frame}
 use Rattle.mp_walk.specs.OpenOnes.{open_of, opens_at, opens_from, opens, IsPlaceBelow, AreFrames}
 use Rattle.mp_walk.specs.TokenMachine.{Open}
-
--- what stands at a place of a list, in front of others and behind others
-pub index-front : {X : Type 0} (xs ys : List X) (i : ℕ) (d : X) → i < length xs
-    → slice_index_or (xs ++ ys) i d ≡ slice_index_or xs i d
-index-front [] ys i d h = absurd (omega arith)
-index-front (x ∷ xs) ys zero d h = refl
-index-front (x ∷ xs) ys (suc i) d h = index-front xs ys i d (omega arith)
 
 pub index-end : {X : Type 0} (xs : List X) (x d : X) → slice_index_or (xs ++ x ∷ []) (length xs) d ≡ x
 index-end [] x d = refl
@@ -49,7 +43,7 @@ module _ (t : Table) where
   opens_from-front oss (f ∷ fs) i h =
       opens_from-front (oss ++ (open_of t f ∷ opens_at oss f.outer) ∷ []) fs i
       (omega (arith, length-append oss ((open_of t f ∷ opens_at oss f.outer) ∷ [])))
-      ∙ index-front oss ((open_of t f ∷ opens_at oss f.outer) ∷ []) i [] h
+      ∙ get_or-front oss ((open_of t f ∷ opens_at oss f.outer) ∷ []) i [] h
 
   -- more frames change nothing at the places that there were
   pub opens-append : (fs gs : List Frame) (o : Option ℕ) → IsPlaceBelow (length fs) o

@@ -3,13 +3,13 @@ use Rattle.std.specs.Prelude.{slice_set}
 use Rattle.std.proofs.Common.{length-set, length-drop}
 use Rattle.std.proofs.lemmas.List.{length-take-le}
 use Rattle.std.proofs.lemmas.Option.{slice_get-get_or, slice_get_within}
-use Rattle.mp_term.proofs.ListLaws.{all-append}
+use Rattle.mp_term.proofs.ListLaws.{all-append, all-index, all-set}
 use Rattle.mp_subst.proofs.TrailLaws.{all-take}
 use Rattle.mp_table.specs.Table.{HasRank, HasRanks, terms_at}
 use Rattle.mp_ac.specs.Args as plain
 use Rattle.mp_ac.specs.Candidates.{AreChoices}
 use Rattle.mp_ac.specs.declared.pick.Pick.{Pick}
-use Rattle.mp_ac.proofs.PicksLaws.{HavePicks, all-at, all-drop, all-set, lead-at, picked-more, picks-of}
+use Rattle.mp_ac.proofs.PicksLaws.{HavePicks, all-drop, lead-at, picked-more, picks-of}
 use Rattle.mp_ac.proofs.begin.set_choices.Goals as goal
 
 pub choices-requires-clause-number : goal.choices-requires-clause-number
@@ -42,7 +42,7 @@ loop-index-preserved c =
     omega (arith, c.loop-index-test.true, c.loop-index.invariant.count, c.requires.children) in
     let wide : room.width ≤ own.rest.room = subst (λ (k : Pick). room.width ≤ k.rest.room)
     (sym c.index_mut-pick.ensures.value)
-    (all-at (λ (k : Pick). room.width ≤ k.rest.room) room.picks.items i own c.loop-index.invariant.room.picks inside) in
+    (all-index (λ (k : Pick). room.width ≤ k.rest.room) room.picks.items i own c.loop-index.invariant.room.picks inside) in
     let start : c.len-start.result ≡ length room.choices.items = c.len-start.ensures ∙ room.choices.ok.0 in
     let count : length part ≡ end - from = omega (
       arith,

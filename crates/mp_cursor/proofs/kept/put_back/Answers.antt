@@ -4,10 +4,11 @@ use Rattle.std.proofs.lemmas.List.{take_all}
 use Rattle.mp_table.specs.Table.{HasRanks}
 use Rattle.mp_search.specs.Levels.{take_of}
 use Rattle.mp_cursor.specs.Kept.{kept_of, HaveRoom}
-use Rattle.mp_cursor.proofs.SliceLaws.{taken-step, set-same, all-mapped, no-default}
+use Rattle.mp_cursor.proofs.SliceLaws.{taken-step, set-same, all-mapped}
 use Rattle.mp_cursor.proofs.TakesLaws.{room-at, room-within, room-beyond, set-levels}
 use Rattle.mp_cursor.proofs.kept.put_back.Goals as goal
 use Rattle.mp_cursor.proofs.kept.put_back.Goals.{After-set}
+use Rattle.mp_term.proofs.ListLaws.{get_or-same}
 
 pub bounds-levels-index : goal.bounds-levels-index
 bounds-levels-index c = room-within (λ l. l.take.room) kept_of c.loop-index.levels c.args.levels.now c.args.kept.now
@@ -35,7 +36,7 @@ given c = c.set.ensures.take
     ∙ ap (λ k. (
       (slice_index_or c.args.kept.now c.loop-index.index c.index-kept-index.result).take.items.items,
       k.collapsed,
-    )) (no-default c.args.kept.now c.loop-index.index c.index-kept-index-in-loop-index.result c.index-kept-index.result
+    )) (get_or-same c.args.kept.now c.loop-index.index c.index-kept-index-in-loop-index.result c.index-kept-index.result
     c.loop-index-test.true)
 
 pub loop-index-preserved : goal.loop-index-preserved
