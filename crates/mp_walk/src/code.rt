@@ -156,8 +156,9 @@ fn plans_of(alloc: Global, sig: &Signature, instrs: &[Instr]) -> Result<Plans, M
 }
 
 impl Code {
-    /// The table of the instructions, which may be walked over the signature. `Memory` comes where there is no room for
-    /// the plans.
+    /// The table of the instructions, which must be such that they may be walked over the signature (`IsWalkable` of
+    /// `specs/Walkable.antt`). `Memory` comes where there is no room for what is prepared of them, or where 32 bits
+    /// can't number the patterns of their tokens.
     pub fn new(alloc: Global, sig: &Signature, instrs: Instrs) -> Result<Code, Memory>
         requires { IsWalkable sig.now instrs }
         ensures instrs { IfOk result (λ c. c.instrs ≡ instrs) }

@@ -187,7 +187,7 @@ impl Instrs {
         Ok(())
     }
 
-    /// Tells the instruction at the index, from 0, where it leads.
+    /// Tells the instruction at the index, from 0, where it leads. The index must be below the length.
     pub fn link(&mut self, index: usize, down: Option<u32>, over: Option<u32>)
         requires { index < length self.old }
         ensures { (i : plain.Instr) → slice_get self.old index ≡ Some i

@@ -245,8 +245,9 @@ impl Ord for RankedPair<'_> {
 }
 
 impl<'a> RankedPair<'a> {
-    /// The pair of the rule and of the values of a trail that goes with the table, its variables in order called by the
-    /// names. `Memory` comes where there is no room for it.
+    /// The pair of the rule and of the values of a trail that goes with the table (`GoesWith`), its variables in order
+    /// called by the names, of which there may be at most `MAX_VARIABLES`. `Memory` comes where there is no room for
+    /// it.
     pub fn new(
         alloc: Global,
         rule: u32,
