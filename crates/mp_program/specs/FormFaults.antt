@@ -57,8 +57,8 @@ used_test _ = []
 abbrev pub used_tests : List RuleLine → List ℕ
 used_tests rs = firsts_after nat_eq [] (flat_map (λ r. used_test r.test) rs)
 
--- a test line that isn't there, or that isn't the next one behind those used before; or a condition on a variable that
--- the rule doesn't have
+-- a test line that isn't there, or that comes behind the next one after those used before; or a condition on a variable
+-- that the rule doesn't have
 abbrev pub is_bad_test : ℕ → List RuleLine → List Text → RuleTest → Bool
 is_bad_test count before vars untested = false
 is_bad_test count before vars (tested n) = nat_le count n || nat_lt (length (used_tests before)) n
