@@ -64,9 +64,9 @@ fn admitted<'a>(
 impl<'a> Many<'a> {
     /// All that the rules admit on the table's subject, each pair once, in order (`IsAllList` of mp_pattern's
     /// `specs/Lists.antt`), with values by ranks in the table. The table must be one that may be walked (`IsWalkTable`
-    /// of `specs/Many.antt`), as is that of a normal subject with the terms of `constants`. What is found twice is
-    /// dropped on the way, so the room for pairs is that of the answer. `Memory` comes where there is no room for the
-    /// walk or the pairs.
+    /// of `specs/Many.antt`), as is that of a normal subject with the terms of `constants`. `Memory` comes where there
+    /// is no room for the walk or the pairs.
+    // What is found twice is dropped on the way, so the room for pairs is linear in their number.
     pub fn ranked<'t>(
         &'t self,
         alloc: Global,

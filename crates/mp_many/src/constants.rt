@@ -36,9 +36,9 @@ fn have_none(code: &Code, count: u32) -> bool
 
 impl<'a> Many<'a> {
     /// Terms with which a table of a subject may be walked: normal ones, few enough for a table, and among them each
-    /// constant of the tree's tokens (`AreWalkConstants` of `specs/WalkConstants.antt`). Today there are none where no
-    /// rule has a commutative operation or a default, and else they are the constants of the rules. `Memory` comes
-    /// where there is no room for them.
+    /// constant of the tree's tokens (`AreWalkConstants` of `specs/WalkConstants.antt`). `Memory` comes where there is
+    /// no room for them.
+    // There are none where no rule has a commutative operation or a default, and else they are those of the rules.
     pub fn constants(&self, alloc: Global) -> Result<Terms, Memory>
         ensures { IfOk result (AreWalkConstants self.now) }
     {

@@ -1,5 +1,5 @@
-//! Many rules at once: the tree of the prefixes of their patterns' tokens, and the walk through a subject that reads
-//! what they share once.
+//! Many rules at once: the tree of the prefixes of their patterns' tokens, and the walk of a subject over it.
+// What the patterns share is read once.
 #![tactic(auto)]
 
 mod all;

@@ -76,14 +76,14 @@ fn list_behind<O: Sink>(
 /// `specs/Listed.antt`.
 ///
 /// Subjects come in file order, for each of them the rules in file order, and for each rule the substitutions in the
-/// order of their take tables, the least of each (`IsOneList` of mp_pattern's `specs/Lists.antt`). Lines are written in
-/// blocks of up to 4,096 bytes, each as soon as it is full, and at the end of each rule's matches on a subject. At
-/// most `limit` lines are printed, where there is a limit and it isn't 0; where more matches follow, a last line
-/// `more TOKEN` has the token of the last one. Where a token is given, the matches behind the one of the token are
-/// listed, and those before it aren't looked for.
+/// order of their take tables, the least of each (`IsOneList` of mp_pattern's `specs/Lists.antt`). At most `limit`
+/// lines are printed, where there is a limit and it isn't 0; where more matches follow, a last line `more TOKEN` has
+/// the token of the last one. Where a token is given, the matches behind the one of the token are listed.
 ///
 /// `Spelling`: the text spells no token. `NotAnItem`: it is a token, but that of no match. Nothing is written then.
 /// `Memory`: memory ran out. `CannotWrite`: a write failed. A front of the lines is written then.
+// Lines are written in blocks of up to 4,096 bytes, each as soon as it is full, and at the end of each rule's matches
+// on a subject. The matches before that of a token aren't looked for.
 pub fn list_matches<O: Sink>(
     alloc: Global,
     file: &File,

@@ -123,10 +123,10 @@ fn texts_for<'t>(
     }
 }
 
-/// Puts the lines of pairs whose values are by ranks in the table, as `put_pairs` puts them. Where there are more pairs
-/// than terms in the table, the texts of its small terms are written once.
+/// Puts the lines of pairs whose values are by ranks in the table, as `put_pairs` puts them.
 ///
-/// `Memory`: there was no room for these texts, and nothing is put.
+/// `Memory`: there was no room for texts of the table's terms, and nothing is put.
+// Where there are more pairs than terms in the table, the texts of its small terms are written once.
 pub fn put_ranked_pairs<O: Sink>(
     alloc: Global,
     sig: &Signature,
@@ -206,10 +206,11 @@ fn print_subjects<M: Matcher, O: Sink>(
 ///
 /// Subjects come in file order, and for each of them the pairs in the order in which they are found, as that of
 /// `IsAllList` of mp_pattern's `specs/Lists.antt`: the rules by their numbers, and for each rule the substitutions in
-/// their own order. Lines are written in blocks of up to 4,096 bytes, each as soon as it is full, and at the end. At
-/// most `limit` lines are printed, where there is a limit; where more pairs follow, a last line is `more`.
+/// their own order. At most `limit` lines are printed, where there is a limit; where more pairs follow, a last line is
+/// `more`.
 ///
 /// `Memory`: memory ran out. `CannotWrite`: a write failed. A front of the lines is written then. No other fault comes.
+// Lines are written in blocks of up to 4,096 bytes, each as soon as it is full, and at the end.
 pub fn list_pairs<M: Matcher, O: Sink>(
     alloc: Global,
     file: &File,

@@ -95,9 +95,9 @@ impl<'a> Finds<'a> {
         }
     }
 
-    /// Adds a pair over the table: kept are then exactly those that were, and this one. The room is that of the
-    /// distinct ones. `Memory` comes where there is none for the pair: then it is dropped, and nothing is promised of
-    /// those that are kept.
+    /// Adds a pair over the table: kept are then exactly those that were, and this one. `Memory` comes where there is
+    /// no room for the pair: then it is dropped, and nothing is promised of those that are kept.
+    // What stands twice is dropped on the way, so the room is linear in the number of the distinct ones.
     pub fn add(&mut self, pair: RankedPair<'a>) -> Result<(), Memory>
         requires { pair.table ≡ self.old.table }
         ensures pairs { OnOk result ((p : lists.Pair) →

@@ -1,5 +1,6 @@
 //! Tables of instructions, and the walk of a subject over one: all patterns that the paths of the table stand for are
-//! matched at once, and what they begin with alike is read once.
+//! matched at once.
+// What the patterns begin with alike is read once.
 #![tactic(auto)]
 
 mod code;
