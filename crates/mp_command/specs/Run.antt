@@ -130,7 +130,7 @@ abbrev pub reads_of : List Wanted → ℕ
 reads_of [] = 0
 reads_of (w ∷ ws) = w.limit + 2 + reads_of ws
 
--- each of the files is started once at most, and read in so many calls at most; no other file is
+-- no more files are started than these, and they are read in so many calls at most
 pub record IsReadOnce (wanted : List Wanted) (shelf : Shelved) : Type 0 where
   pub starts : shelf.starts_after ≤ shelf.starts + length wanted
   pub reads : shelf.reads_after ≤ shelf.reads + reads_of wanted

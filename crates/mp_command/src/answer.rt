@@ -173,8 +173,8 @@ fn answer_over<'a, S: Shelf, O: Sink>(
 /// Reads the file that the request names, and then the program file, where it names one, and does its action over them.
 ///
 /// The ending is that of `IsOutcomeAt` of `specs/Outcome.antt` over the files, or a file that isn't held, is too long,
-/// or whose start or read failed, or want of memory, or a write that failed. Each of the files is started once at most,
-/// and no other is.
+/// or whose start or read failed, or want of memory, or a write that failed. No more files are started than the request
+/// names.
 pub fn answer_file<'a, S: Shelf, O: Sink>(
     alloc: Global,
     request: Request<'a>,

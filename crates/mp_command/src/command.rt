@@ -101,7 +101,7 @@ pub fn run<S: Shelf, O: Sink, E: Sink>(
     ensures tells { Tells (words_of words.now)
         (shelved S.Shelf shelf.old shelf.new) (sunk O.Sink out.old out.new) (sunk E.Sink err.old err.new) result }
 
-    // No file is started but those that the request names, and each of these once at most.
+    // No more files are started than the request names, and they are read in so many calls at most.
     ensures once { IsReadOnce (wanted_by (request_of (words_of words.now))) (shelved S.Shelf shelf.old shelf.new) }
 {
     there_is_an_outcome();

@@ -16,9 +16,9 @@ use mp_vm::ProgramError;
 /// An end that the words and the files decide.
 #[derive(Drop)]
 pub enum Told<'a> {
-    /// Done, for `match` with at least one line.
+    /// Done, for `match` and `run` with at least one line.
     Done,
-    /// Done, for `match` with no line.
+    /// Done, for `match` and `run` with no line.
     Empty,
     /// The words make no request.
     Usage,

@@ -87,7 +87,8 @@ impl<'a> Many<'a> {
         Ok(found.into_pairs())
     }
 
-    /// The same pairs, with copies of their terms.
+    /// The pairs that `ranked` gives, with copies of their terms, as a list in the same order (`IsAllList`). The table
+    /// must be one that may be walked (`IsWalkTable`). `Memory` comes where there is no room for the walk or the pairs.
     pub fn all(&self, alloc: Global, table: &Table) -> Result<Pairs, Memory>
         requires { IsWalkTable self.now table.now }
         ensures { IfOk result (IsAllList self.now.sig self.now.rules (subject_of table.now)) }

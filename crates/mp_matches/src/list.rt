@@ -73,7 +73,8 @@ fn list_behind<O: Sink>(
 }
 
 /// Prints a line for each match of the file, in order, and says whether there are any: `IsListed` of
-/// `specs/Listed.antt`.
+/// `specs/Listed.antt`. The file must be sound (`IsSoundFile` of mp_text's `specs/Sound.antt`), as every file that
+/// `read_file` gives.
 ///
 /// Subjects come in file order, for each of them the rules in file order, and for each rule the substitutions in the
 /// order of their take tables, the least of each (`IsOneList` of mp_pattern's `specs/Lists.antt`). At most `limit`

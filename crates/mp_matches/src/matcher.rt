@@ -36,7 +36,7 @@ pub trait Line<B> {
     fn rule(&self) -> u32
         ensures { result ≡ (pair self.now).0 };
 
-    /// Puts the text of the substitution.
+    /// Puts the text of the substitution, which must be one that may be printed so (`may_put`).
     fn put<K: Sink>(&self, sig: &Signature, base: &B, out: &mut Writer<'_, K>)
         requires { may_put sig.now base.now self.now }
         ensures { Puts K.Sink out.old out.new (subst_text sig.now (pair self.now).1) };
@@ -84,7 +84,8 @@ pub trait Matcher {
     ghost finds: { Self → Tree → List PlainPair → Type 0 };
 
     /// Puts a line for each pair that is found on the subject, in order, as many as may be, and says whether there are
-    /// any (`AreSubjectLines` and `front_lines` of `specs/PairsListed.antt`). The rules have these names.
+    /// any (`AreSubjectLines` and `front_lines` of `specs/PairsListed.antt`). The signature must be the matcher's, and
+    /// the subject sound over it (`IsSoundSubject` of mp_text's `specs/Sound.antt`). The rules have these names.
     ///
     /// `Memory`: memory ran out. A front of the lines is put then.
     fn put<O: Sink>(

@@ -201,7 +201,8 @@ fn print_subjects<M: Matcher, O: Sink>(
 }
 
 /// Prints a line for each pair that the matcher finds on a subject of the file, in order, and says whether there are
-/// any: `IsPairsListed` of `specs/PairsListed.antt`. The matcher has the signature of the file, and its rules have
+/// any: `IsPairsListed` of `specs/PairsListed.antt`. The file must be sound (`IsSoundFile` of mp_text's
+/// `specs/Sound.antt`), as every file that `read_file` gives, and its signature that of the matcher. The rules have
 /// these names.
 ///
 /// Subjects come in file order, and for each of them the pairs in the order in which they are found, as that of

@@ -176,7 +176,9 @@ pub fn run_ranked<'a>(
     accepted(alloc, sig, program, &code, table)
 }
 
-/// The same pairs, with copies of their terms.
+/// The pairs that `run_ranked` gives, with copies of their terms, as a list in the same order (`IsProgramList`). The
+/// program must be valid over the signature (`IsValid`), and the table one on which it may be run (`IsProgramTable`).
+/// `Memory` comes where there is no room for the walk or the pairs.
 pub fn run_program(
     alloc: Global,
     sig: &Signature,

@@ -114,8 +114,8 @@ impl<'a> Runner<'a> {
         })
     }
 
-    /// The table of a subject on which the program may be run. The subject must be normal and within the limit of
-    /// nodes.
+    /// The table of a subject, on which the program may be run (`IsProgramTable`). The subject must be normal and have
+    /// at most `MAX_TERM_NODES` nodes. `Memory` comes where there is no room for the table.
     pub fn table(&self, alloc: Global, subject: &Term) -> Result<Table, Memory>
         requires normal { IsNormal self.now.sig (tree subject.now) }
         requires few { node_count (tree subject.now) ≤ MAX_TERM_NODES }
@@ -125,7 +125,9 @@ impl<'a> Runner<'a> {
         Table::build(alloc, self.sig, subject, &self.constants)
     }
 
-    /// The pairs that the program accepts on the table's subject, as `run_ranked` gives them.
+    /// The pairs that the program accepts on the table's subject, as `run_ranked` gives them. The table must be one on
+    /// which the program may be run (`IsProgramTable`), as those of `table` are. `Memory` comes where there is no room
+    /// for the walk or the pairs.
     pub fn pairs<'b>(
         &'b self,
         alloc: Global,
