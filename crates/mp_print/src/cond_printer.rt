@@ -198,7 +198,7 @@ fn sense_sign(by: Sense) -> &'static [u8]
 }
 
 /// The name of an operation, and nothing where none is held.
-fn op_name(sig: &Signature, op: OpId) -> &[u8]
+pub fn op_name(sig: &Signature, op: OpId) -> &[u8]
     ensures { result.now ≡ op_name_text sig.now op.0 }
 {
     match sig.op(op) {

@@ -115,7 +115,7 @@ fn put_count<K: Sink>(least: u32, fixed: bool, out: &mut Writer<'_, K>)
 }
 
 /// The name of a kind, and nothing where none is held.
-pub(crate) fn kind_name(sig: &Signature, kind: KindId) -> &[u8]
+pub fn kind_name(sig: &Signature, kind: KindId) -> &[u8]
     ensures { result.now ≡ kind_name_text sig.now kind.0 }
 {
     match sig.kind_name(kind) {

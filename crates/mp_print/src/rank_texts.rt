@@ -7,7 +7,7 @@ ghost use Rattle.mp_table.specs.Table.{term_at, HasRank};
 ghost use Rattle.mp_print.specs.Printing.{term_text, value_text};
 
 use crate::rank_printer::{Part, RankBase, put_bound_by, write_next};
-use crate::text::Text;
+use crate::text_sink::TextSink;
 use mp_io::{Sink, Writer};
 use mp_subst::Bound;
 use mp_table::{Head, Rank, Table};
@@ -43,7 +43,12 @@ impl<'a> Model for RankTexts<'a> {
 }
 
 // Appends the text of the term of a rank behind a comma and a blank, and nothing where the term isn't small.
-fn write_small(sig: &Signature, table: &Table, rank: Rank, text: &mut Text) -> Result<(), Memory>
+fn write_small(
+    sig: &Signature,
+    table: &Table,
+    rank: Rank,
+    text: &mut TextSink,
+) -> Result<(), Memory>
     requires { HasRank table.now rank }
     ensures { IfOk result (λ _. (added : List ℕ) × (text.new.bytes.items ≡ text.old.bytes.items ++ added)
         × (0 < length added → added ≡ codes ", " ++ term_text sig.now (term_at table.now rank))) }
@@ -81,7 +86,7 @@ impl<'a> RankTexts<'a> {
         ensures sig { IfOk result (λ r. r.sig ≡ sig.now) }
         ensures table { IfOk result (λ r. r.table ≡ table.now) }
     {
-        let mut text = Text::new(alloc);
+        let mut text = TextSink::new(alloc);
         let mut parts = Vec::with_capacity(alloc, table.len() as usize)?;
         for rank in 0..table.len() {
             let from = text.bytes.len();

@@ -123,19 +123,7 @@ fn put_kind<K: Sink>(name: &Name, members: &Names, out: &mut Writer<'_, K>)
     out.flush();
 }
 
-/// Appends what a statement of a keyword and a name begins with: `head_text` of `specs/PrintedSignature.antt`. It takes
-/// no memory.
-///
-/// `Failed`: the sink's count of faults rose, and a front of the text was appended.
-pub fn write_head<K: Sink>(keyword: &[u8], name: &Name, sink: &mut K) -> Result<(), Failed>
-    ensures { Prints (sunk K.Sink sink.old sink.new) (head_text keyword.now name.now) result }
-{
-    let mut out = Writer::new(sink);
-    put_head(keyword, name.bytes(), &mut out);
-    out.finish()
-}
-
-/// Puts what a statement of a keyword and a name begins with, as `write_head` writes it.
+/// Puts what a statement of a keyword and a name begins with: `head_text` of `specs/PrintedSignature.antt`.
 pub fn put_head<K: Sink>(keyword: &[u8], name: &[u8], out: &mut Writer<'_, K>)
     ensures { Puts K.Sink out.old out.new (head_text keyword.now name.now) }
 {

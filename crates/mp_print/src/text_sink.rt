@@ -1,37 +1,42 @@
-//! A text that is written in memory.
+//! A sink in memory.
 
 ghost use Rattle.std.specs.Prelude.{◌≡◌, [], Some};
 
 use mp_io::{Failed, Sink};
 use std::alloc::Global;
 
-/// The bytes that were written, which take room as they come.
+/// Bytes that are kept in memory, as many as there is memory for.
 #[derive(Drop)]
-pub(crate) struct Text {
+pub struct TextSink {
     pub(crate) bytes: Vec<u8>,
     faults: u64,
 }
 
-impl Text {
+impl TextSink {
     /// No bytes. It takes no memory.
-    pub(crate) fn new(alloc: Global) -> Text
+    pub fn new(alloc: Global) -> TextSink
         ensures { result.bytes.items ≡ [] }
     {
-        Text {
+        TextSink {
             bytes: Vec::new(alloc),
             faults: 0,
         }
     }
+
+    /// The bytes written so far.
+    pub fn content(&self) -> &[u8]
+        ensures { result.now ≡ self.now.bytes.items }
+    {
+        &self.bytes
+    }
 }
 
-impl Sink for Text {
-    ghost contents = { λ t. Some t.bytes.items };
+impl Sink for TextSink {
+    ghost contents = { λ s. Some s.bytes.items };
 
-    ghost faults = { λ t. t.faults };
+    ghost faults = { λ s. s.faults };
 
-    /// Takes the whole piece.
-    ///
-    /// `Failed`: there is no memory for it.
+    /// `Failed`: there was no memory for the piece, and nothing was appended.
     fn write(&mut self, piece: &[u8]) -> Result<usize, Failed> {
         if self.bytes.extend_from_slice(piece).is_err() {
             self.faults = self.faults.saturating_add(1);
