@@ -3,7 +3,7 @@
 ghost use Rattle.std.specs.Prelude.{◌≡◌, IsTrue};
 ghost use Rattle.std.specs.List.Sorted.{IsStrictlyIncreasing};
 
-use mp_pair::{Graph, Pairings, list_of_pairings_is_unique};
+use mp_pair::{Graph, Pairings};
 use std::alloc::Global;
 use std::process::Abort;
 
@@ -145,9 +145,4 @@ fn choices_that_leave_later_items_no_class_are_left_at_once(rt: HostRuntime) {
     let alloc = rt.alloc();
     assert!(rt; are_pairings(&rt, alloc, ONE_EACH, &[ANY; 20], &[&[0], &[0]], &[], true));
     assert!(rt; are_pairings(&rt, alloc, ONE_EACH, &[ANY; 18], THREE, &[FIRST], false));
-}
-
-#[test]
-fn laws_of_pairings_do_nothing() {
-    list_of_pairings_is_unique();
 }

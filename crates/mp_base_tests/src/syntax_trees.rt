@@ -1,12 +1,6 @@
 //! The syntax trees of texts.
 
 use crate::syntax_texts::{Sort, expanded, told};
-use mp_syntax::statement::{printed_statements_are_read, syntax_has_names, syntax_is_a_function};
-use mp_syntax::token::{tokens_are_total, tokens_are_unique};
-use mp_syntax::{
-    condition_is_a_function, expression_is_a_function, printed_condition_is_read,
-    printed_expression_is_read,
-};
 use std::alloc::Global;
 use std::process::Abort;
 
@@ -113,17 +107,4 @@ fn chains_of_any_length_are_read(rt: HostRuntime) {
     let text = expanded(&rt, rt.alloc(), "subject s: `1000^x_:`a;");
     let tree = told(&rt, rt.alloc(), Sort::Statements, &text);
     assert!(rt; tree.as_str().split("Wildcard").count() == 1001);
-}
-
-#[test]
-fn laws_do_nothing(_rt: HostRuntime) {
-    syntax_is_a_function();
-    expression_is_a_function();
-    condition_is_a_function();
-    printed_statements_are_read();
-    printed_expression_is_read();
-    printed_condition_is_read();
-    syntax_has_names();
-    tokens_are_unique();
-    tokens_are_total();
 }

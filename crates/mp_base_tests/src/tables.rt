@@ -8,9 +8,7 @@ ghost use Rattle.mp_term.specs.declared.limits.TheConstants.{MAX_TERM_NODES};
 ghost use Rattle.mp_table.specs.Table.{HasRank};
 
 use crate::values::{name, no_operations, term};
-use mp_table::{
-    Head, Rank, Table, pieces_of_ranks_are_pieces_of_terms, ranks_compare_as_their_terms,
-};
+use mp_table::{Head, Rank, Table};
 use mp_term::{MAX_TERM_NODES, OpId, Signature, Term, Terms, is_normal, node_count};
 use std::alloc::Global;
 use std::process::Abort;
@@ -94,10 +92,4 @@ fn terms_are_ranked_read_and_found(rt: HostRuntime) {
     for row in ROWS {
         assert!(rt; is_ranked(&rt, rt.alloc(), &table, row), "{}", row.0);
     }
-}
-
-#[test]
-fn laws_of_tables_do_nothing() {
-    ranks_compare_as_their_terms();
-    pieces_of_ranks_are_pieces_of_terms();
 }

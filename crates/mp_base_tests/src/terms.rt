@@ -1,4 +1,4 @@
-//! Each public call of terms once with memory at hand, and the spellings of names and signs.
+//! Names, signs, signatures, edits and lists of terms, with memory at hand.
 
 ghost use Rattle.std.specs.Prelude.{◌≡◌};
 

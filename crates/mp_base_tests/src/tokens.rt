@@ -4,10 +4,7 @@ use crate::syntax_texts::expanded;
 use crate::values::name;
 use mp_io::MemorySink;
 use mp_table::Rank;
-use mp_token::{
-    Token, TokenEntries, TokenFault, printed_tokens_are_read, read_token, spellings_are_unique,
-    write_token,
-};
+use mp_token::{Token, TokenEntries, TokenFault, read_token, write_token};
 use std::alloc::Global;
 use std::process::Abort;
 
@@ -138,10 +135,4 @@ fn texts_that_are_no_tokens_are_refused(rt: HostRuntime) {
         let bytes = expanded(&rt, rt.alloc(), text);
         assert!(rt; is_refused(rt.alloc(), &bytes, *at), "{text}");
     }
-}
-
-#[test]
-fn laws_of_tokens_do_nothing() {
-    spellings_are_unique();
-    printed_tokens_are_read();
 }

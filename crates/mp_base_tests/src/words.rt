@@ -1,6 +1,6 @@
 //! Words of the command line, and the requests that they make.
 
-use mp_words::{Action, Engine, Request, read_words, words_make_requests};
+use mp_words::{Action, Engine, Request, read_words};
 use std::alloc::Global;
 use std::process::Abort;
 
@@ -201,9 +201,15 @@ matchpy match t --limit=\n\
 matchpy match t --limit=+3\n\
 matchpy match t --limit=3x\n\
 matchpy match t --limit -3\n\
+matchpy match -t\n\
 matchpy match t --max=1\n\
+matchpy rewrite t --max\n\
+matchpy rewrite t --max=+1\n\
 matchpy rewrite t --max=1000001\n\
+matchpy rewrite t --max=00000000001\n\
+matchpy rewrite t --resume=s/r/1\n\
 matchpy rewrite t --engine=one\n\
+matchpy show\n\
 matchpy show t --resume=x\n\
 matchpy edit t --limit=1\n\
 matchpy run t\n\
@@ -258,9 +264,4 @@ fn other_words_make_no_request(rt: HostRuntime) {
     for words in OTHERS.split('\n') {
         assert!(rt; are_asking(&rt, rt.alloc(), words, None), "{words}");
     }
-}
-
-#[test]
-fn the_law_of_words_does_nothing() {
-    words_make_requests();
 }
