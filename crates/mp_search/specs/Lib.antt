@@ -17,6 +17,7 @@ pub mod Portion
 pub mod Partners
 pub mod At
 pub mod Lacking
+pub mod Look
 pub mod Tried
 pub mod Sublists
 pub mod Stage

@@ -6,6 +6,7 @@ ghost use Rattle.mp_pattern.specs.Subpatterns.{subpatterns, all_subpatterns};
 ghost use Rattle.mp_pattern.specs.View.{pattern_tree};
 ghost use Rattle.mp_table.specs.Table.{rank_cmp};
 ghost use Rattle.mp_subst.specs.Trail.{GoesWith};
+ghost use Rattle.mp_search.specs.Look.{IsLook};
 ghost use Rattle.mp_search.specs.Parts.{StandsAt};
 ghost use Rattle.mp_search.specs.Query.{IsQuery};
 ghost use Rattle.mp_search.specs.Site.{IsSite};
@@ -52,23 +53,35 @@ fn owner_of(places: &[usize], place: usize) -> Option<usize>
     places.iter().position(|own| *own == place)
 }
 
+// What a look at the later children goes by: the child at hand and its siblings, the ranks that it takes, the trail, and
+// the number of the first later child. What holds of it is `IsLook` of `specs/Look.antt`.
+#[derive(Clone, Copy)]
+pub(crate) struct Look<'a> {
+    query: &'a Query<'a>,
+    site: &'a Site<'a>,
+    take: &'a [Rank],
+    trail: &'a Trail,
+    node: u32,
+}
+
 // The first place from one on that none of the children has, with a term that isn't taken and that the child may match.
 fn place_from(
-    query: &Query<'_>,
-    site: &Site<'_>,
-    take: &[Rank],
-    trail: &Trail,
+    look: Look<'_>,
     child: &Pattern,
     node: u32,
     others: &[usize],
     from: usize,
 ) -> Option<usize>
-    requires query { IsQuery query.now }
-    requires site { IsSite query.now site.now }
-    requires trail { GoesWith query.now.table.now trail.now }
-    requires ascending { IsSorted rank_cmp site.now.left.now }
-    requires child { StandsAt query.now node (subpatterns (pattern_tree child.now)) }
+    requires look { IsLook look }
+    requires child { StandsAt look.query.now node (subpatterns (pattern_tree child.now)) }
 {
+    let Look {
+        query,
+        site,
+        take,
+        trail,
+        ..
+    } = look;
     let (first, end) = places_of(query, trail, child, node, site.left);
     for place in first.max(from)..end {
         if !is_taken(take, site.left, place)
@@ -84,66 +97,44 @@ fn place_from(
 // A place that no child has, with a term that isn't taken and that the child may match: behind that of the child before
 // if there is one.
 fn free_place(
-    query: &Query<'_>,
-    site: &Site<'_>,
-    take: &[Rank],
-    trail: &Trail,
+    look: Look<'_>,
     child: &Pattern,
     node: u32,
     places: &[usize],
     which: usize,
 ) -> Option<usize>
-    requires query { IsQuery query.now }
-    requires site { IsSite query.now site.now }
-    requires trail { GoesWith query.now.table.now trail.now }
-    requires ascending { IsSorted rank_cmp site.now.left.now }
-    requires child { StandsAt query.now node (subpatterns (pattern_tree child.now)) }
+    requires look { IsLook look }
+    requires child { StandsAt look.query.now node (subpatterns (pattern_tree child.now)) }
     requires within { which < length places.now }
 {
     let near = if which > 0 { places[which - 1] } else { 0 };
-    if let Some(place) = place_from(query, site, take, trail, child, node, places, near) {
+    if let Some(place) = place_from(look, child, node, places, near) {
         return Some(place);
     }
-    place_from(query, site, take, trail, child, node, places, 0)
+    place_from(look, child, node, places, 0)
 }
 
 // The first place from one on that none of the others has, with a term that isn't taken and that the child of that
 // number among the children may match.
 fn nth_place_from(
-    query: &Query<'_>,
-    site: &Site<'_>,
-    take: &[Rank],
-    trail: &Trail,
+    look: Look<'_>,
     children: &[Pattern],
     node: u32,
     which: usize,
     others: &[usize],
     from: usize,
 ) -> Option<usize>
-    requires query { IsQuery query.now }
-    requires site { IsSite query.now site.now }
-    requires trail { GoesWith query.now.table.now trail.now }
-    requires ascending { IsSorted rank_cmp site.now.left.now }
-    requires children { StandsAt query.now node (all_subpatterns (patterns (map pattern_tree children.now))) }
+    requires look { IsLook look }
+    requires children { StandsAt look.query.now node (all_subpatterns (patterns (map pattern_tree children.now))) }
 {
     match children {
         [] => None,
         [child, later @ ..] => {
             if which == 0 {
-                return place_from(query, site, take, trail, child, node, others, from);
+                return place_from(look, child, node, others, from);
             }
-            let end = end_of(query, child, node);
-            nth_place_from(
-                query,
-                site,
-                take,
-                trail,
-                later,
-                end,
-                which - 1,
-                others,
-                from,
-            )
+            let end = end_of(look.query, child, node);
+            nth_place_from(look, later, end, which - 1, others, from)
         }
     }
 }
@@ -151,21 +142,13 @@ fn nth_place_from(
 // Whether the place is made free by moving the child that has it, where that isn't marked.
 #[cycle(settle_child)]
 fn make_free(
-    query: &Query<'_>,
-    site: &Site<'_>,
-    take: &[Rank],
-    trail: &Trail,
-    node: u32,
+    look: Look<'_>,
     places: &mut [usize],
     marks: &mut [bool],
     place: usize,
     steps: usize,
 ) -> bool
-    requires query { IsQuery query.now }
-    requires site { IsSite query.now site.now }
-    requires trail { GoesWith query.now.table.now trail.now }
-    requires ascending { IsSorted rank_cmp site.now.left.now }
-    requires later { StandsAt query.now node (all_subpatterns (patterns (map pattern_tree site.now.later.now))) }
+    requires look { IsLook look }
     requires many { length places.old ≤ length marks.old }
     ensures places { length places.new ≡ length places.old }
     ensures marks { length marks.new ≡ length marks.old }
@@ -176,7 +159,7 @@ fn make_free(
             if marks[owner] {
                 return false;
             }
-            settle_child(query, site, take, trail, node, places, marks, owner, steps)
+            settle_child(look, places, marks, owner, steps)
         }
     }
 }
@@ -185,21 +168,13 @@ fn make_free(
 // those that are asked.
 #[cycle(settle_child)]
 fn settle_child(
-    query: &Query<'_>,
-    site: &Site<'_>,
-    take: &[Rank],
-    trail: &Trail,
-    node: u32,
+    look: Look<'_>,
     places: &mut [usize],
     marks: &mut [bool],
     which: usize,
     steps: usize,
 ) -> bool
-    requires query { IsQuery query.now }
-    requires site { IsSite query.now site.now }
-    requires trail { GoesWith query.now.table.now trail.now }
-    requires ascending { IsSorted rank_cmp site.now.left.now }
-    requires later { StandsAt query.now node (all_subpatterns (patterns (map pattern_tree site.now.later.now))) }
+    requires look { IsLook look }
     requires many { length places.old ≤ length marks.old }
     requires within { which < length places.old }
     ensures places { length places.new ≡ length places.old }
@@ -209,53 +184,23 @@ fn settle_child(
         return true;
     }
     marks[which] = true;
-    if let Some(place) = nth_place_from(
-        query, site, take, trail, site.later, node, which, &*places, 0,
-    ) {
+    let later = look.site.later;
+    if let Some(place) = nth_place_from(look, later, look.node, which, &*places, 0) {
         places[which] = place;
         return true;
     }
     let mut from = 0;
-    for _ in 0..site.left.len() {
-        let Some(place) = nth_place_from(
-            query,
-            site,
-            take,
-            trail,
-            site.later,
-            node,
-            which,
-            &[],
-            from,
-        ) else {
+    for _ in 0..look.site.left.len() {
+        let Some(place) = nth_place_from(look, later, look.node, which, &[], from) else {
             return false;
         };
-        if make_free(
-            query,
-            site,
-            take,
-            trail,
-            node,
-            places,
-            marks,
-            place,
-            steps - 1,
-        ) {
+        if make_free(look, places, marks, place, steps - 1) {
             places[which] = place;
             return true;
         }
         from = place.saturating_add(1);
     }
     false
-}
-
-// Unmarks all.
-fn clear(marks: &mut [bool])
-    ensures { length marks.new ≡ length marks.old }
-{
-    for i in 0..marks.len() {
-        marks[i] = false;
-    }
 }
 
 // Whether the site's child is the first one of its operation.
@@ -346,60 +291,45 @@ pub(crate) fn come_soon(query: &Query<'_>, child: &Pattern, later: &[Pattern]) -
 // Whether the child of that number isn't looked at, or finds a place among the terms that are left. If not, those are
 // marked that have the places that it may have.
 fn is_placed(
-    query: &Query<'_>,
-    site: &Site<'_>,
-    take: &[Rank],
-    trail: &Trail,
-    node: u32,
+    look: Look<'_>,
     child: &Pattern,
-    child_node: u32,
+    node: u32,
     places: &mut [usize],
     marks: &mut [bool],
     which: usize,
 ) -> bool
-    requires query { IsQuery query.now }
-    requires site { IsSite query.now site.now }
-    requires trail { GoesWith query.now.table.now trail.now }
-    requires ascending { IsSorted rank_cmp site.now.left.now }
-    requires later { StandsAt query.now node (all_subpatterns (patterns (map pattern_tree site.now.later.now))) }
-    requires child { StandsAt query.now child_node (subpatterns (pattern_tree child.now)) }
+    requires look { IsLook look }
+    requires child { StandsAt look.query.now node (subpatterns (pattern_tree child.now)) }
     requires many { length places.old ≤ length marks.old }
     requires within { which < length places.old }
     ensures places { length places.new ≡ length places.old }
     ensures marks { length marks.new ≡ length marks.old }
 {
+    let Look { query, site, .. } = look;
     if !is_rival(query, site.child, is_first(query, site.node), child) {
         return true;
     }
-    if let Some(place) = free_place(query, site, take, trail, child, child_node, &*places, which) {
+    if let Some(place) = free_place(look, child, node, &*places, which) {
         places[which] = place;
         return true;
     }
-    clear(&mut *marks);
+    marks.fill(false);
     let steps = places.len();
-    settle_child(query, site, take, trail, node, places, marks, which, steps)
+    settle_child(look, places, marks, which, steps)
 }
 
 // Marks children that are to take a term each behind the entry at hand, but seem to have too few, if there are any
 // among these, which are those from that number on.
 fn mark_from(
-    query: &Query<'_>,
-    site: &Site<'_>,
-    take: &[Rank],
-    trail: &Trail,
-    node: u32,
+    look: Look<'_>,
     children: &[Pattern],
-    child_node: u32,
+    node: u32,
     places: &mut [usize],
     marks: &mut [bool],
     which: usize,
 ) -> bool
-    requires query { IsQuery query.now }
-    requires site { IsSite query.now site.now }
-    requires trail { GoesWith query.now.table.now trail.now }
-    requires ascending { IsSorted rank_cmp site.now.left.now }
-    requires later { StandsAt query.now node (all_subpatterns (patterns (map pattern_tree site.now.later.now))) }
-    requires children { StandsAt query.now child_node (all_subpatterns (patterns (map pattern_tree children.now))) }
+    requires look { IsLook look }
+    requires children { StandsAt look.query.now node (all_subpatterns (patterns (map pattern_tree children.now))) }
     requires many { length places.old ≤ length marks.old }
 {
     match children {
@@ -408,33 +338,11 @@ fn mark_from(
             if which >= places.len() {
                 return false;
             }
-            if !is_placed(
-                query,
-                site,
-                take,
-                trail,
-                node,
-                child,
-                child_node,
-                &mut *places,
-                &mut *marks,
-                which,
-            ) {
+            if !is_placed(look, child, node, &mut *places, &mut *marks, which) {
                 return true;
             }
-            let end = end_of(query, child, child_node);
-            mark_from(
-                query,
-                site,
-                take,
-                trail,
-                node,
-                later,
-                end,
-                places,
-                marks,
-                which + 1,
-            )
+            let end = end_of(look.query, child, node);
+            mark_from(look, later, end, places, marks, which + 1)
         }
     }
 }
@@ -456,7 +364,12 @@ pub(crate) fn mark_rivals(
     requires later { StandsAt query.now node (all_subpatterns (patterns (map pattern_tree site.now.later.now))) }
     requires many { length places.old ≤ length marks.old }
 {
-    mark_from(
-        query, site, take, trail, node, site.later, node, places, marks, 0,
-    )
+    let look = Look {
+        query,
+        site,
+        take,
+        trail,
+        node,
+    };
+    mark_from(look, site.later, node, places, marks, 0)
 }
