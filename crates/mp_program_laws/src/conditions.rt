@@ -13,7 +13,8 @@ use mp_round_trip::printed_condition_is_read;
 /// Law: a condition that is read over any variables is read of its printed text also where its variables are called by
 /// their places among names, `renamed_cond` of `mp_program`.
 ///
-/// The names and signs of the signature are such, as in every file that is read. It does nothing when it runs.
+/// The signature is spelled, by `IsSpelledSignature` of mp_round_trip's `specs/Readable.antt`: its names are names and
+/// its signs are signs, as in every file that is read. It does nothing when it runs.
 pub fn a_renamed_condition_is_read()
     // It passes the checks where the condition does.
     ensures passes { (sig : Sig) (names : List (List ℕ)) (c : Cond) → length names < 2 ^ 32

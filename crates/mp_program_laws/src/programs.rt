@@ -13,7 +13,8 @@ use mp_round_trip::printed_condition_is_read;
 /// Law: the text that a program is printed as, `program_text` of `mp_program`, is that program, for every program that
 /// some bytes are, `IsProgramOf`, in format 1 or 2. So what is read is printed and read again without loss.
 ///
-/// The names and signs of the signature are such, as in every file that is read. It does nothing when it runs.
+/// The signature is spelled, by `IsSpelledSignature` of mp_round_trip's `specs/Readable.antt`: its names are names and
+/// its signs are signs, as in every file that is read. It does nothing when it runs.
 pub fn a_printed_program_is_read()
     ensures { (sig : Sig) (bytes : List ℕ) (p : Program) → IsSpelledSignature sig → IsProgramOf sig bytes p
         → IsProgramOf sig (program_text sig p) p }

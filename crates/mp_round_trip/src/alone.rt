@@ -22,10 +22,12 @@ ghost use Rattle.mp_round_trip.specs.Readable.{IsReadableCondition};
 
 use mp_pattern::MAX_DEPTH;
 
-/// Law: the text that a term is printed as, `term_text` of `mp_print`, is read alone as its normal form: of each term
-/// that passes the checks, and so of each term that is read.
+/// Law: the text that a term is printed as, `term_text` of `mp_print`, is read alone as its normal form (`IsTermOf` of
+/// mp_build's `specs/Alone.antt`): of each term that passes the checks (`IsReadableTerm` of `specs/Readable.antt`), and
+/// so of each term that is read.
 ///
-/// The names and signs of the signature are such, as in every file that is read. It does nothing when it runs.
+/// The signature is spelled, by `IsSpelledSignature` of `specs/Readable.antt`: its names are names and its signs are
+/// signs, as in every file that is read. It does nothing when it runs.
 pub fn printed_term_is_read()
     // What is read of the printed text is the normal form of the term.
     ensures readable { (sig : Sig) (t : Tree) → IsSpelledSignature sig → IsReadableTerm sig t
@@ -35,10 +37,12 @@ pub fn printed_term_is_read()
         → IsTermOf sig (term_text sig t) t }
 {}
 
-/// Law: the text that a pattern is printed as, `pattern_text` of `mp_print`, is read alone as that pattern: of each
-/// pattern that passes the checks, normal or not, and so of each pattern that is read.
+/// Law: the text that a pattern is printed as, `pattern_text` of `mp_print`, is read alone as that pattern
+/// (`IsPatternOf` of mp_build's `specs/Alone.antt`): of each pattern that passes the checks (`IsReadablePattern` of
+/// `specs/Readable.antt`), normal or not, and so of each pattern that is read.
 ///
-/// The names and signs of the signature are such, as in every file that is read. It does nothing when it runs.
+/// The signature is spelled, by `IsSpelledSignature` of `specs/Readable.antt`: its names are names and its signs are
+/// signs, as in every file that is read. It does nothing when it runs.
 pub fn printed_pattern_is_read()
     // What is read of the printed text is the pattern.
     ensures readable { (sig : Sig) (p : Pattern) → IsSpelledSignature sig → IsReadablePattern sig p
@@ -49,10 +53,12 @@ pub fn printed_pattern_is_read()
 {}
 
 /// Law: the text that a template is printed as, `template_text` of `mp_print`, is read alone as that template, over the
-/// variables of a pattern: of each template that is sound over it, and so of each template that is read.
+/// variables of a pattern (`IsTemplateOf` of `specs/AloneTemplate.antt`): of each template that is sound over it
+/// (`IsSoundTemplate` of mp_pattern's `specs/SoundRule.antt`), and so of each template that is read.
 ///
-/// The names and signs of the signature are such, as in every file that is read, and the pattern is formed, as the
-/// pattern of every rule that is read. It does nothing when it runs.
+/// The signature is spelled, by `IsSpelledSignature` of `specs/Readable.antt`: its names are names and its signs are
+/// signs, as in every file that is read. The pattern is formed, as the pattern of every rule that is read. It
+/// does nothing when it runs.
 pub fn printed_template_is_read()
     // What is read of the printed text is the template.
     ensures readable { (sig : Sig) (p : Pattern) (x : Template) → IsSpelledSignature sig → IsFormed sig p
@@ -63,9 +69,12 @@ pub fn printed_template_is_read()
 {}
 
 /// Law: the text that a condition is printed as, `cond_text` of `mp_print`, is read alone as that condition, over the
-/// variables that may be named: of each condition that passes the checks, and so of each condition that is read.
+/// variables that may be named (`IsCondOf` of mp_build's `specs/AloneCondition.antt`): of each condition that passes
+/// the checks (`IsReadableCondition` of `specs/Readable.antt`), and so of each condition that is read, for it passes
+/// them. The condition of a sound rule, with at most 100 brackets open at once in its text, is read over any variables.
 ///
-/// The names and signs of the signature are such, as in every file that is read. It does nothing when it runs.
+/// The signature is spelled, by `IsSpelledSignature` of `specs/Readable.antt`: its names are names and its signs are
+/// signs, as in every file that is read. It does nothing when it runs.
 pub fn printed_condition_is_read()
     // What is read of the printed text is the condition.
     ensures readable { (sig : Sig) (scope : Scope) (c : Cond) → IsSpelledSignature sig

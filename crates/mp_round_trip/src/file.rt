@@ -25,8 +25,8 @@ pub fn printed_file_is_its_statements()
         × (map unplaced read ≡ map unplaced (file_spelling file)) }
 {}
 
-/// Law: the signature of a file that some bytes are, `IsFileOf` of mp_text's `specs/Reading.antt`, has names and signs
-/// that are such.
+/// Law: in a file that some bytes are, `IsFileOf` of mp_text's `specs/Reading.antt`, each name of the signature is a
+/// name and each sign a sign (`IsSpelledSignature` of `specs/Readable.antt`).
 ///
 /// It does nothing when it runs.
 pub fn signatures_of_files_are_spelled()

@@ -78,7 +78,7 @@ impl Subjects {
         self.items.len()
     }
 
-    /// The subject of the number. It is None exactly where the number isn't below the length.
+    /// The subject at an index, from 0. It is None exactly where the number isn't below the length.
     pub fn get(&self, index: usize) -> Option<&Subject>
         ensures { slice_get self.now index ≡ option_map (λ s. subject_tree s.now) result }
     {
@@ -102,7 +102,7 @@ pub struct EditSet {
     pub edits: Edits,
 }
 
-/// A list of edit statements.
+/// A list of edit statements, seen by contracts as the list of them.
 #[derive(Drop)]
 pub struct EditSets {
     items: Vec<EditSet>,

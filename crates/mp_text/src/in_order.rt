@@ -23,7 +23,7 @@ use mp_syntax::{Statement, SyntaxError, read_statement};
 use mp_term::Memory;
 use std::alloc::Global;
 
-// So many bytes a short rule or subject has.
+// Room is taken for a rule and a subject for each so many bytes of a text: few statements are shorter.
 const SHORT_STATEMENT: usize = 16;
 
 /// The file of the bytes, built statement by statement, where its declarations come before its other statements and

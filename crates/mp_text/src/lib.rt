@@ -1,5 +1,5 @@
-//! Rule files: from the syntax trees of a file to its signature, rules and subjects, checked; and the printed text of
-//! files.
+//! Rule files: from the bytes of a file to its signature, rules, subjects and edit statements, checked; and the printed
+//! text of files.
 #![tactic(auto)]
 
 mod file;

@@ -39,8 +39,10 @@ use std::alloc::Global;
 ///
 /// The text is a file exactly where its tokens spell statements (`IsSyntaxOf` of mp_parser's `specs/Syntax.antt`) in
 /// which no check finds a fault (`faults` of `specs/FileChecks.antt`); the file is then `file_tree_of` of
-/// `specs/FileBuild.antt`, its terms and patterns in normal form. Its rules are sound (`AreSoundRules` of mp_pattern's
-/// `specs/SoundRule.antt`) and so are its subjects.
+/// `specs/FileBuild.antt`, its terms and patterns in normal form. It has fewer than 4,294,967,295 bytes.
+///
+/// A file that is read is sound, by `IsSoundFile` of `specs/Sound.antt`: its signature, its rules, its subjects, whose
+/// names are distinct, and its edit statements, which can be made but for the size of what they give.
 ///
 /// - `Text`: the text has this fault, by `IsFaultOf` of `specs/Reading.antt`, with its line and column, from 1: the
 ///   first that its tokens or the grammar have (`IsFirstFault` of mp_syntax's `specs/FirstFault.antt`), and where it is
