@@ -13,10 +13,7 @@ pub mod TreeLaws
 mod CodeLaws
 pub mod WalkableLaws
 mod TreeExamples
-mod GatherLaws
 pub mod ConstantLaws
-pub mod WalkTables
-pub mod WalkConstantLaws
 pub mod OnceLaws
 mod ItemLaws
 mod WalkLaws

@@ -10,7 +10,6 @@ pub mod GroupView
 pub mod Many
 pub mod RuleNames
 pub mod WalkConstants
-pub mod Gathered
 pub mod ManyCode
 pub mod ManyView
 pub mod RuleWalk

@@ -3,9 +3,7 @@
 #![tactic(auto)]
 
 mod all;
-mod constants;
 mod digest;
-mod gather;
 mod group;
 mod laws;
 mod lists;

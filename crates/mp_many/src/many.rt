@@ -6,11 +6,12 @@ ghost use Rattle.mp_walk.specs.Code.{IsCode};
 ghost use Rattle.mp_many.specs.Laid.{tree_of};
 ghost use Rattle.mp_many.specs.ManyView.{state_view};
 ghost use Rattle.mp_many.specs.Prefixes.{prefixes, IsState};
+ghost use Rattle.mp_many.specs.WalkConstants.{AreWalkConstants};
 
 use crate::names::{RuleNames, names_of};
 use crate::tree::tree_of;
 use mp_pattern::{NetToken, Rules};
-use mp_term::{Memory, Names, Signature};
+use mp_term::{Memory, Names, Signature, Terms};
 use mp_walk::Code;
 use std::alloc::Global;
 use std::marker::Model;
@@ -115,6 +116,14 @@ impl<'a> Many<'a> {
         ensures sound { AreSoundRules self.now.sig self.now.rules }
     {
         self.names.get(rule as usize)
+    }
+
+    /// Terms with which the table of any subject may be walked (`AreWalkConstants` of `specs/WalkConstants.antt`).
+    /// `Memory` comes where there is no room for them.
+    pub fn constants(&self, alloc: Global) -> Result<Terms, Memory>
+        ensures { IfOk result (AreWalkConstants self.now) }
+    {
+        self.code.constants(alloc)
     }
 
     /// The signature that `build` was given.

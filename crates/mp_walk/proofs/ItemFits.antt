@@ -5,10 +5,8 @@ use Rattle.mp_pattern.specs.declared.limits.TheConstants.{MAX_VARIABLES}
 use Rattle.mp_pattern.specs.Fits.{Fits}
 use Rattle.mp_pattern.specs.NetTokens.{tokens_of}
 use Rattle.mp_pattern.specs.PatternTree.{Pattern}
-use Rattle.mp_pattern.specs.Plan.{Plan, Variable, IsPlanOf}
-use Rattle.mp_pattern.specs.SoundRule.{IsSoundPattern}
+use Rattle.mp_pattern.specs.Plan.{Variable}
 use Rattle.mp_pattern.specs.Variables.{variables}
-use Rattle.mp_pattern.proofs.PlanNodes.{plan-names}
 use Rattle.mp_table.specs.Table.{Table, subject_of}
 use Rattle.mp_subst.specs.Trail.{Trail, subst_in}
 use Rattle.mp_search.proofs.TableLaws.{subject-normal}
@@ -55,11 +53,3 @@ item-fits_names c h q few xs names leaf = by_levels c.levels.items h.0.chained l
         (course_of c).present a h.1 q few
         (subst (λ n. In {X = ℕ × Path} (n, tokens_of x.sig.now q) (lists (code_forest x.code.now.instrs)))
         (sym (last-level x.table.now c.frames.items c.trail l ls)) i) x.table.now c.trail xs refl names
-
--- so it is with the variables of the pattern's plan
-pub item-fits : (c : Course) (h : IsAtItem c) (q : Pattern) → IsSoundPattern c.set.sig.now q → (plan : Plan)
-    → IsPlanOf c.set.sig.now q plan
-    → In {X = ℕ × Path} ((item_of c).0, tokens_of c.set.sig.now q) (lists (code_forest c.set.code.now.instrs))
-    → Fits c.set.sig.now q (subject_of c.set.table.now) (subst_in c.set.table.now plan.variables c.trail) (item_of c).1
-item-fits c h q sound plan is leaf =
-    item-fits_names c h q sound.few_variables plan.variables (plan-names c.set.sig.now q plan is) leaf

@@ -24,6 +24,7 @@ pub mod RoomLaws
 pub mod LoadLaws
 pub mod DownLaws
 pub mod CodeLaws
+pub mod ConstantLaws
 pub mod OpeningLaws
 pub mod StepLaws
 pub mod RuleLaws

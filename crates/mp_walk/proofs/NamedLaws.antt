@@ -5,26 +5,26 @@ use Rattle.std.proofs.Common.{arith}
 use Rattle.std.specs.Prelude.{Option, Some, None, slice_get}
 use Rattle.std.proofs.lemmas.List.{length-map}
 use Rattle.std.proofs.lemmas.Option.{get_or_from_slice_get, slice_get_within}
+use Rattle.mp_term.specs.Listing.{In}
 use Rattle.mp_term.specs.Normal.{IsNormal}
 use Rattle.mp_term.specs.Signature.{Sig}
 use Rattle.mp_term.specs.Tree.{Tree}
 use Rattle.mp_term.proofs.ListLaws.{drop-item}
 use Rattle.mp_pattern.specs.declared.limits.TheConstants.{MAX_VARIABLES}
-use Rattle.mp_pattern.specs.Fits.{Table}
+use Rattle.mp_pattern.specs.Fits.{Table, Fits}
+use Rattle.mp_pattern.specs.NetTokens.{tokens_of}
+use Rattle.mp_pattern.specs.PatternTree.{Pattern}
 use Rattle.mp_pattern.specs.Plan.{Variable}
 use Rattle.mp_pattern.specs.Value.{Binding, Subst}
 use Rattle.mp_pattern.specs.Variables.{variables}
 use Rattle.mp_table.specs.Table as tables
-use Rattle.mp_table.specs.Table.{subject_of}
 use Rattle.mp_subst.specs.Bound.{Bound, value_in}
 use Rattle.mp_subst.specs.Trail.{Trail, TrailEntry, last_value, bindings_from, subst_in}
 use Rattle.mp_theory.proofs.FitsSolves.{fits-solves}
-use Rattle.mp_search.proofs.TableLaws.{subject-normal}
-use Rattle.mp_walk.specs.declared.course.Course.{Course}
-use Rattle.mp_walk.specs.CourseView.{IsAtItem, item_of}
+use Rattle.mp_walk.specs.CodeForest.{code_forest}
+use Rattle.mp_walk.specs.Forests.{lists}
 use Rattle.mp_walk.specs.Instrs.{Instr}
-use Rattle.mp_walk.specs.NamedItems.{with_names, called, IsNamedSubst, IsItemTrail}
-use Rattle.mp_walk.proofs.ItemFits.{item-fits_names}
+use Rattle.mp_walk.specs.NamedItems.{with_names, called, IsItemTrail}
 
 -- the names of the variables that are called by them
 pub names-called : (xs : List (List ℕ)) → map (λ (v : Variable). v.name) (called xs) ≡ xs
@@ -90,6 +90,12 @@ module _ (table : tables.Table) (es : List TrailEntry) where
       by_last None k go = absurd (omega (arith, k, few-bindings (suc n) xs))
       by_last (Some b) k go = ap (λ s. record { name = y; value = value_in table b } ∷ s) (go (omega (arith, k)))
 
+-- the substitution with which the table of an item fits each pattern whose tokens lead to the instruction and which has
+-- as many variables as there are names, these called by the names
+abbrev pub IsNamedSubst : Sig → List Instr → Tree → List (List ℕ) → Subst → (ℕ × Table) → Type 0
+IsNamedSubst sig code t names s i = (q : Pattern) (r : Subst) → length (variables q) ≡ length names
+    → In (i.0, tokens_of sig q) (lists (code_forest code)) → Fits sig q t r i.1 → s ≡ with_names names r
+
 -- the values of an item's trail are those of the item's substitution
 pub trail-named : (sig : Sig) (code : List Instr) (t : Tree) (terms : tables.Table) (trail : Trail)
     (names : List (List ℕ)) (i : ℕ × Table) → length names ≤ MAX_VARIABLES → IsNormal sig t
@@ -103,14 +109,3 @@ trail-named sig code t terms trail names i few normal fits q r count leaf given 
     let same : own ≡ r = cc in
     let all : length own ≡ length xs = sym (length-map own (λ (b : Binding). b.name)) ∙ ap length f.subst_of.names in
     bindings-called terms trail.stack 0 xs names (sym count) all ∙ ap (with_names names) same
-
--- so with the item at hand
-pub item-named : (c : Course) → IsAtItem c → (names : List (List ℕ)) → length names ≤ MAX_VARIABLES
-    → IsNamedSubst c.set.sig.now c.set.code.now.instrs (subject_of c.set.table.now) names
-    (subst_in c.set.table.now (called names) c.trail) (item_of c)
-item-named c h names few =
-    let sig = c.set.sig.now in
-    let table = c.set.table.now in
-    trail-named sig c.set.code.now.instrs (subject_of table) table c.trail names (item_of c) few
-    (subject-normal sig table h.0.setting.table h.0.setting.normal)
-    (λ q many leaf. item-fits_names c h q many (called (variables q)) (names-called (variables q)) leaf)

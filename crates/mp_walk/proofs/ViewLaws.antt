@@ -1,6 +1,6 @@
 -- A walk as what it is read as.
-use Rattle.std.proofs.Common.{◌≡◌, ◌≤◌, ◌-◌, ℕ, zero, suc, arith, List, [], ◌∷◌, refl, ap, sym, ◌∙◌, subst}
-use Rattle.std.specs.Prelude.{Some, IsSome, IfOk, Result, Ok, Err, slice_index_or, length}
+use Rattle.std.proofs.Common.{◌≡◌, ◌≤◌, ◌-◌, ℕ, zero, suc, arith, List, [], ◌∷◌, refl, ap, ◌∙◌}
+use Rattle.std.specs.Prelude.{Some, IsSome, slice_index_or, length}
 use Rattle.mp_walk.specs.declared.course.Course.{Course}
 use Rattle.mp_walk.specs.declared.level.Level.{Level}
 use Rattle.mp_walk.specs.declared.stage.Stage.{Stage}
@@ -36,9 +36,3 @@ last-index (l ∷ m ∷ ls) d h =
 pub not-zero : (n : ℕ) → (n ≡ 0 → ⊥) → 1 ≤ n
 not-zero zero h = absurd (h refl)
 not-zero (suc n) h = omega arith
-
--- what holds of a value holds of what is made that is it
-pub by_result : {X Y E : Type 0} (r : Result X E) (f : X → Y) (P : Y → Type 0) (y : Y) → IfOk r (λ x. f x ≡ y) → P y
-    → IfOk r (λ x. P (f x))
-by_result (Ok x) f P y e h = subst P (sym e) h
-by_result (Err w) f P y e h = tt

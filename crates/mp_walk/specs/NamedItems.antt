@@ -1,5 +1,5 @@
--- The substitution of an item of a walk, its variables called by names that are given.
-use Rattle.std.specs.Prelude.{◌≡◌, ◌≤◌, ℕ, List, [], ◌∷◌, length, map}
+-- The values of an item of a walk, its variables called by names that are given.
+use Rattle.std.specs.Prelude.{◌≤◌, ℕ, List, [], ◌∷◌, length, map}
 use Rattle.mp_term.specs.Listing.{In}
 use Rattle.mp_term.specs.Tree.{Tree}
 use Rattle.mp_term.specs.Signature.{Sig}
@@ -24,12 +24,6 @@ with_names _ _ = []
 -- variables of the names, whatever their form
 abbrev pub called : List (List ℕ) → List Variable
 called xs = map (λ x. record { name = x; form = one_form }) xs
-
--- the substitution with which the table of an item fits each pattern whose tokens lead to the instruction and which has
--- as many variables as there are names, these called by the names
-abbrev pub IsNamedSubst : Sig → List Instr → Tree → List (List ℕ) → Subst → (ℕ × Table) → Type 0
-IsNamedSubst sig code t names s i = (q : Pattern) (r : Subst) → length (variables q) ≡ length names
-    → In (i.0, tokens_of sig q) (lists (code_forest code)) → Fits sig q t r i.1 → s ≡ with_names names r
 
 -- the values of a trail over a table of terms, called by the variables of a pattern whose tokens lead to the
 -- instruction, are a substitution with which the table of an item fits the pattern

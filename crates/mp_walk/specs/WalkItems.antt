@@ -4,10 +4,7 @@ use Rattle.mp_term.specs.Listing.{In}
 use Rattle.mp_term.specs.Tree.{Tree}
 use Rattle.mp_term.specs.Signature.{Sig}
 use Rattle.mp_pattern.specs.Fits.{Table, Fits}
-use Rattle.mp_pattern.specs.NetTokens.{tokens_of}
 use Rattle.mp_pattern.specs.PatternTree.{Pattern}
-use Rattle.mp_pattern.specs.Plan.{Plan, IsPlanOf}
-use Rattle.mp_pattern.specs.SoundRule.{IsSoundPattern}
 use Rattle.mp_pattern.specs.Value.{Subst}
 use Rattle.mp_ac.specs.CommItems.{NoneTwice}
 use Rattle.mp_walk.specs.CodeForest.{code_forest}
@@ -29,9 +26,3 @@ module _ (sig : Sig) (code : List Instr) (t : Tree) where
   pub record AreLeafItems (is : List (ℕ × Table)) : Type 0 where
     pub exactly : (i : ℕ × Table) → In i is ↔ IsLeafItem i
     pub once : NoneTwice is
-
-  -- the substitution with which the table of an item fits each sound pattern of the plan whose tokens lead to the
-  -- instruction
-  abbrev pub IsItemSubst : Plan → Subst → (ℕ × Table) → Type 0
-  IsItemSubst plan s i = (q : Pattern) → IsSoundPattern sig q → IsPlanOf sig q plan
-      → In {X = ℕ × Path} (i.0, tokens_of sig q) (lists (code_forest code)) → Fits sig q t s i.1

@@ -6,8 +6,8 @@ use mp_pattern::{NetToken, copy_pattern};
 use mp_term::{Memory, copy_term};
 use std::alloc::Global;
 
-/// A copy of the token. `Memory` comes where there is no room for it.
-pub fn copy_token(alloc: Global, token: &NetToken) -> Result<NetToken, Memory>
+// A copy of the token. `Memory` comes where there is no room for it.
+pub(crate) fn copy_token(alloc: Global, token: &NetToken) -> Result<NetToken, Memory>
     ensures { IfOk result (λ k. net_token k ≡ net_token token.now) }
 {
     match token {

@@ -5,6 +5,7 @@
 
 mod code;
 mod comm;
+mod constants;
 mod copy;
 mod course;
 mod entries;
@@ -26,8 +27,8 @@ mod token;
 mod walk;
 
 pub use code::Code;
-pub use copy::copy_token;
 pub use found::Finds;
 pub use instr::{Instr, Instrs, Numbers};
+pub use named::named_values;
 pub use ranked::{RankedBinding, RankedPair};
 pub use walk::Walk;

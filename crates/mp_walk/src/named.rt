@@ -10,8 +10,9 @@ use mp_table::Table;
 use mp_term::{Memory, Names};
 use std::alloc::Global;
 
-// The values of the variables in order that are bound, called by the names.
-pub(crate) fn named_values(
+/// The values of the variables in order that are bound, called by the names. `Memory` comes where there is no room for
+/// them.
+pub fn named_values(
     alloc: Global,
     trail: &Trail,
     table: &Table,

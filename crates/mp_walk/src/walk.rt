@@ -1,32 +1,25 @@
 //! The walk of a subject over a table of instructions.
 ghost use Rattle.std.specs.Prelude.{◌≡◌, ◌≤◌, ◌↔◌, ℕ, None, Some, IsSome, IsTrue, IfOk, OnOk, OnErr, IsErr, option_map};
 ghost use Rattle.std.specs.Prelude.{length, slice_index_or, true, false, IfSome, MatchOption};
-ghost use Rattle.std.specs.List.{AllByRecursion};
-ghost use Rattle.mp_term.specs.Normal.{IsNormal};
-ghost use Rattle.mp_term.specs.Size.{node_count};
 ghost use Rattle.mp_pattern.specs.Fits as fits;
-ghost use Rattle.mp_pattern.specs.declared.limits.TheConstants.{MAX_VARIABLES};
 ghost use Rattle.mp_pattern.specs.Fits.{nothing};
-ghost use Rattle.mp_table.specs.Table.{rank_of, subject_of};
+ghost use Rattle.mp_table.specs.Table.{subject_of};
 ghost use Rattle.mp_subst.specs.Trail.{GoesWith};
-ghost use Rattle.mp_subst.specs.View.{subst_of};
-ghost use Rattle.mp_walk.specs.CodeConstants.{code_constants};
 ghost use Rattle.mp_walk.specs.Code.{IsCode};
-ghost use Rattle.mp_walk.specs.NamedItems.{IsItemTrail, IsNamedSubst};
-ghost use Rattle.mp_walk.specs.WalkItems.{AreLeafItems, IsItemSubst};
+ghost use Rattle.mp_walk.specs.CodeConstants.{IsCodeTable};
+ghost use Rattle.mp_walk.specs.NamedItems.{IsItemTrail};
+ghost use Rattle.mp_walk.specs.WalkItems.{AreLeafItems};
 ghost use Rattle.mp_search.specs.Reading.{ReadsAs};
 ghost use Rattle.mp_walk.specs.WalkView.{advanced};
 ghost use Rattle.mp_walk.specs.Walkable.{IsWalkable};
 
 use crate::code::Code;
 use crate::course::Course;
-use crate::named::named_values;
 use crate::setting::Setting;
 use crate::stage::Stage;
-use mp_pattern::Plan;
-use mp_subst::{Subst, Trail};
+use mp_subst::Trail;
 use mp_table::{Rank, Table};
-use mp_term::{MAX_TERM_NODES, Memory, Names, Signature};
+use mp_term::{Memory, Signature};
 use std::alloc::Global;
 use std::marker::Model;
 
@@ -58,9 +51,8 @@ impl<'a> Walk<'a> {
     /// The walk before its first item. Its list is exactly the leaf items of the table of instructions on the subject
     /// of the table, each once, in an order of its own (`AreLeafItems` of `specs/WalkItems.antt`).
     ///
-    /// The table of instructions may be walked (`IsWalkable` of `specs/Walkable.antt`);
-    /// the terms of the table are normal over the signature, its subject has at most `MAX_TERM_NODES` nodes, and it
-    /// holds the constants of the instructions. `Memory` comes where there is no memory for the walk.
+    /// The table of instructions may be walked (`IsWalkable` of `specs/Walkable.antt`), and that on the subject of the
+    /// table (`IsCodeTable` of `specs/CodeConstants.antt`). `Memory` comes where there is no memory for the walk.
     pub fn begin(
         alloc: Global,
         sig: &'a Signature,
@@ -69,9 +61,7 @@ impl<'a> Walk<'a> {
     ) -> Result<Walk<'a>, Memory>
         requires walkable { IsWalkable sig.now code.now.instrs }
         requires plans { IsCode sig.now code.now }
-        requires normal { AllByRecursion (IsNormal sig.now) table.now.terms }
-        requires nodes { node_count (subject_of table.now) ≤ MAX_TERM_NODES }
-        requires held { AllByRecursion (λ u. IsSome (rank_of table.now u)) (code_constants code.now.instrs) }
+        requires table { IsCodeTable sig.now code.now.instrs table.now }
         ensures setting { IfOk result (λ w. (w.sig ≡ sig.now) × (w.code ≡ code.now.instrs) × (w.table ≡ table.now)) }
         ensures before { IfOk result (λ w. w.item ≡ None) }
         ensures list { IfOk result (λ w. AreLeafItems sig.now code.now.instrs (subject_of table.now) w.to_come) }
@@ -130,18 +120,6 @@ impl<'a> Walk<'a> {
         self.course.entry(node)
     }
 
-    /// The substitution of the item, by the plan of a pattern whose tokens lead to it: that with which the table of the
-    /// item fits the pattern. The walk stands at an item. `Memory` comes where there is no memory for it.
-    pub fn subst(&self, alloc: Global, plan: &Plan) -> Result<Subst, Memory>
-        requires { IsSome self.now.item }
-        ensures { IfOk result (λ s. IfSome self.now.item (IsItemSubst self.now.sig self.now.code
-            (subject_of self.now.table) plan.now (subst_of s))) }
-    {
-        self.course
-            .trail
-            .to_subst(alloc, self.course.set.table, plan)
-    }
-
     /// The values of the item: those of the variables of a pattern whose tokens lead to it are the substitution with
     /// which the table of the item fits the pattern (`IsItemTrail` of `specs/NamedItems.antt`). The walk stands at an
     /// item.
@@ -152,17 +130,5 @@ impl<'a> Walk<'a> {
             (IsItemTrail self.now.sig self.now.code (subject_of self.now.table) self.now.table result.now) }
     {
         &self.course.trail
-    }
-
-    /// The substitution of the item, its variables called by the names in order (`IsNamedSubst` of
-    /// `specs/NamedItems.antt`): no plan of a pattern is needed. The walk stands at an item. `Memory` comes where there
-    /// is no memory for it.
-    pub fn named_subst(&self, alloc: Global, names: &Names) -> Result<Subst, Memory>
-        requires some { IsSome self.now.item }
-        requires few { length names.now ≤ MAX_VARIABLES }
-        ensures { IfOk result (λ s. IfSome self.now.item (IsNamedSubst self.now.sig self.now.code
-            (subject_of self.now.table) names.now (subst_of s))) }
-    {
-        named_values(alloc, &self.course.trail, self.course.set.table, names)
     }
 }

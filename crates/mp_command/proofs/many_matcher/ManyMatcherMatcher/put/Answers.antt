@@ -6,8 +6,9 @@ use Rattle.mp_pattern.specs.Lists.{IsAllList}
 use Rattle.mp_text.specs.File.{subject_tree}
 use Rattle.mp_theory.proofs.AllList.{IsAllList-unique}
 use Rattle.mp_walk.specs.Ranked.{pairs_of, AreOver}
+use Rattle.mp_walk.proofs.ConstantLaws.{subject-built, code_table-built}
 use Rattle.mp_table.specs.Table.{subject_of}
-use Rattle.mp_many.proofs.WalkTables.{subject-built, walk_table-built}
+use Rattle.mp_many.specs.Laid.{tree_of}
 use Rattle.mp_matches.specs.PairsListed.{front_lines, named}
 use Rattle.mp_matches.specs.PrintedPairs.{PutsWithMemory}
 use Rattle.mp_matches.proofs.PairsLaws.{subject-put}
@@ -29,8 +30,8 @@ ranked-requires g c =
     let table = c.in_ok-table.table in
     let m = c.self.inside in
     let same : c.args.sig.now ≡ m.many.sig = c.requires.over ∙ sym (ap (λ n. n.sig) c.self.view_is) in
-    walk_table-built table (tree c.args.subject.now.term) m.constants c.in_ok-table.ensures.table m.many
-    c.self.invariant
+    code_table-built table (tree c.args.subject.now.term) m.constants c.in_ok-table.ensures.table m.many.sig
+    (tree_of m.many.sig m.many.rules) c.self.invariant
     (subst (λ sig. AllByRecursion (IsNormal sig) table.terms) same c.in_ok-table.ensures.normal)
     c.requires.sound.term.few_nodes
 

@@ -1,22 +1,16 @@
-use Rattle.std.proofs.Common.{◌∙◌, ap, length, subst, sym}
-use Rattle.std.proofs.lemmas.Result.{IfOk-weaker}
-use Rattle.mp_term.specs.Listing.{IsListing}
-use Rattle.mp_term.specs.Order.{tree_cmp}
-use Rattle.mp_pattern.specs.Constants.{IsConstantOf}
+use Rattle.std.proofs.Common.{subst}
+use Rattle.std.specs.Prelude.{IfOk}
+use Rattle.mp_walk.specs.CodeConstants.{AreCodeConstants}
+use Rattle.mp_walk.specs.Walkable.{IsWalkable}
 use Rattle.mp_many.specs.WalkConstants.{AreWalkConstants}
-use Rattle.mp_many.proofs.WalkableLaws.{length-tree}
-use Rattle.mp_many.proofs.WalkConstantLaws.{constants-rules}
+use Rattle.mp_many.proofs.WalkableLaws.{walkable}
 use Rattle.mp_many.proofs.many.Many.constants.Goals as goal
-
-pub have_none-requires : goal.have_none-requires
-have_none-requires c =
-    let m = c.args.self.now in
-    c.states.ensures ∙ sym (length-tree m.sig m.rules) ∙ ap length (sym c.code.ensures.tree)
 
 pub returns : goal.returns
 returns c =
-    let m = c.args.self.now in
-    IfOk-weaker c.constants_of.result (IsListing tree_cmp (IsConstantOf c.rules.result.now)) (AreWalkConstants m)
-    (λ ts l. constants-rules m ts c.rules.ensures.sound
-    (subst (λ rs. IsListing tree_cmp (IsConstantOf rs) ts) c.rules.ensures.rules l))
-    c.constants_of.ensures
+    let m = c.self.inside in
+    let sig = m.sig.now in
+    let rules = m.rules.now in
+    subst (λ v. IfOk c.constants.result (AreWalkConstants v)) c.self.view_is
+    (subst (λ code. IsWalkable sig code → IfOk c.constants.result (AreCodeConstants sig code)) c.self.invariant.tree
+    (c.constants.ensures sig) (walkable sig rules c.self.invariant.sound.each))

@@ -1,9 +1,7 @@
 use Rattle.std.proofs.Common.{◌∙◌, refl, sym, subst}
-use Rattle.std.specs.Prelude.{IsSome}
-use Rattle.std.specs.List.{AllByRecursion}
 use Rattle.mp_term.proofs.SearchLaws.{all-from_in}
-use Rattle.mp_table.specs.Table.{rank_of, subject_of}
-use Rattle.mp_walk.specs.CodeConstants.{code_constants}
+use Rattle.mp_table.specs.Table.{subject_of}
+use Rattle.mp_walk.specs.CodeConstants.{IsCodeTable}
 use Rattle.mp_walk.specs.WalkItems.{IsLeafItem, AreLeafItems}
 use Rattle.mp_walk.specs.Walkable.{IsWalkable}
 use Rattle.mp_many.specs.Laid.{tree_of}
@@ -19,12 +17,12 @@ begin-requires-clause-walkable c =
     subst (λ s. IsWalkable s c.code.result.now.instrs) (sym c.sig.ensures)
     (subst (IsWalkable m.sig) (sym c.code.ensures.tree) (walkable m.sig m.rules c.code.ensures.sound.each))
 
-pub begin-requires-clause-held : goal.begin-requires-clause-held
-begin-requires-clause-held c =
+pub begin-requires-clause-table : goal.begin-requires-clause-table
+begin-requires-clause-table c =
     let m = c.args.many.now in
     let tb = c.args.table.now in
-    subst (λ is. AllByRecursion (λ u. IsSome (rank_of tb u)) (code_constants is)) (sym c.code.ensures.tree)
-    c.requires.constants
+    subst (λ s. IsCodeTable s c.code.result.now.instrs tb) (sym c.sig.ensures)
+    (subst (λ is. IsCodeTable m.sig is tb) (sym c.code.ensures.tree) c.requires)
 
 pub returns-clause-items : goal.returns-clause-items
 returns-clause-items c =

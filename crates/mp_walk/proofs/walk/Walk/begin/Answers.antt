@@ -10,8 +10,8 @@ begin-requires-clause-setting c = record {
   walkable = c.requires.walkable;
   plans = c.requires.plans;
   table = c.len.ensures.valid;
-  normal = c.requires.normal;
-  held = c.requires.held;
+  normal = c.requires.table.normal;
+  held = c.requires.table.constants;
 }
 
 pub returns-clause-list : goal.returns-clause-list
@@ -20,5 +20,5 @@ returns-clause-list c =
     let code = c.args.code.now.instrs in
     let t = c.args.table.now in
     subst (AreLeafItems sig code (subject_of t)) (sym c.in_ok-begin.ensures.to_come)
-    (walk_items sig (subject_of t) (subject-normal sig t c.len.ensures.valid c.requires.normal) code
+    (walk_items sig (subject_of t) (subject-normal sig t c.len.ensures.valid c.requires.table.normal) code
     c.requires.walkable)
