@@ -16,7 +16,7 @@ pub use fault::ProgramError;
 pub use format::Format;
 pub use laws::a_program_has_one_spelling;
 pub use numbered::rules_of;
-pub use printer::{put_program, write_program};
+pub use printer::write_program;
 pub use program::{Program, ProgramRule, ProgramRules};
 pub use renamed::{numbered_name, renamed_cond};
 pub use rule_line::{RuleLine, RuleTest};

@@ -46,8 +46,8 @@ pub fn write_program<K: Sink>(
     out.finish()
 }
 
-/// Puts the text of a program, as `write_program` writes it, under the same condition. It takes no memory.
-pub fn put_program<K: Sink>(sig: &Signature, program: &Program, out: &mut Writer<'_, K>)
+// Puts the text of a program, as `write_program` writes it.
+fn put_program<K: Sink>(sig: &Signature, program: &Program, out: &mut Writer<'_, K>)
     requires { IsShort (suc (length program.now.code)) }
     ensures { Puts K.Sink out.old out.new (program_text sig.now (program_view program.now)) }
 {

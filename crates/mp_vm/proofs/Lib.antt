@@ -28,7 +28,6 @@ pub mod NeedLaws
 pub mod WayLaws
 pub mod TrailLaws
 pub mod CodeLaws
-pub mod RunnerLaws
 pub mod StandsAlone
 pub mod ProgramLists
 pub mod OneReading

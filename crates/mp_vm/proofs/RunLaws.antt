@@ -35,9 +35,10 @@ use Rattle.mp_walk.specs.CodeForest.{code_forest}
 use Rattle.mp_walk.specs.Forests.{lists}
 use Rattle.mp_walk.specs.Found.{found_cmp, names_of}
 use Rattle.mp_walk.specs.Instrs.{Instr, accepts_at}
-use Rattle.mp_walk.specs.NamedItems.{with_names, IsNamedSubst}
+use Rattle.mp_walk.specs.NamedItems.{with_names}
 use Rattle.mp_walk.specs.Walkable.{Path, StandsFor, numbered_names}
 use Rattle.mp_walk.specs.WalkItems.{IsLeafItem, AreLeafItems}
+use Rattle.mp_walk.proofs.NamedLaws.{IsNamedSubst}
 use Rattle.mp_walk.proofs.CodePaths.{leaf-whole}
 use Rattle.mp_walk.proofs.FoundLaws.{ascending-pairs}
 use Rattle.mp_program.specs.Program.{ProgramRule, Program}
@@ -480,15 +481,6 @@ module _ (sig : Sig) (p : Program) (run : IsRunnable sig p) where
           (all-from_in (IsProgramPair sig p t) ps (λ q i. (h q).0 ((l.exactly q).0 (contains-from_in q ps i))))
           l.ascending;
     }
-
--- what is said of a walk's own signature, instructions and names is so of others that are the same
-pub named-over : (item : Option (ℕ × Table)) (t : Tree) (g h : Sig) (cs ds : List Instr) (ns ms : List (List ℕ))
-    (u : Subst) → g ≡ h → cs ≡ ds → ns ≡ ms → IfSome item (IsNamedSubst g cs t ns u)
-    → IfSome item (IsNamedSubst h ds t ms u)
-named-over item t g h cs ds ns ms u sig code names k =
-    subst (λ x. IfSome item (IsNamedSubst x ds t ms u)) sig
-    (subst (λ x. IfSome item (IsNamedSubst g x t ms u)) code
-    (subst (λ x. IfSome item (IsNamedSubst g cs t x u)) names k))
 
 -- ---- the items of a walk
 

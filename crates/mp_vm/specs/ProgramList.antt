@@ -1,20 +1,16 @@
 -- What a program accepts on a subject.
-use Rattle.std.specs.Prelude.{◌≡◌, ◌≤◌, ◌↔◌, ℕ, Bool, true, List, Option, Some, IsSome, slice_get}
-use Rattle.std.specs.List.{AllByRecursion}
+use Rattle.std.specs.Prelude.{◌≡◌, ◌↔◌, ℕ, Bool, true, List, Option, Some, slice_get}
 use Rattle.mp_term.specs.Listing.{In, IsListing}
-use Rattle.mp_term.specs.Normal.{IsNormal}
-use Rattle.mp_term.specs.Size.{node_count}
 use Rattle.mp_term.specs.Signature.{Sig}
 use Rattle.mp_term.specs.Tree.{Tree}
-use Rattle.mp_pattern.specs.declared.limits.TheConstants.{MAX_TERM_NODES}
 use Rattle.mp_pattern.specs.Admission.{meets}
 use Rattle.mp_pattern.specs.Fits as fits
 use Rattle.mp_pattern.specs.Fits.{Fits}
 use Rattle.mp_pattern.specs.Lists.{Pair, pair_cmp}
 use Rattle.mp_pattern.specs.PatternTree.{Pattern}
 use Rattle.mp_pattern.specs.Value.{Subst}
-use Rattle.mp_table.specs.Table.{Table, rank_of, subject_of}
-use Rattle.mp_walk.specs.CodeConstants.{code_constants}
+use Rattle.mp_table.specs.Table.{Table}
+use Rattle.mp_walk.specs.CodeConstants.{IsCodeTable}
 use Rattle.mp_walk.specs.CodeForest.{code_forest}
 use Rattle.mp_walk.specs.Forests.{lists}
 use Rattle.mp_walk.specs.Instrs.{accepts_at}
@@ -64,9 +60,6 @@ IsTestedBy sig p t r i answer = (path : Path) (pattern : Pattern) (s : Subst)
 abbrev pub IsPairOf : Sig → Program → Tree → (ℕ × fits.Table) → ℕ → Option Pair → Type 0
 IsPairOf sig p t i n o = (q : Pair) → ((q.0 ≡ n) × IsGivenBy sig p t i.0 i.1 q) ↔ (o ≡ Some q)
 
--- a program may be run on the table's subject: the terms are normal, the subject isn't too large, and each constant of
--- the instructions is held
-pub record IsProgramTable (sig : Sig) (p : Program) (t : Table) : Type 0 where
-  pub normal : AllByRecursion (IsNormal sig) t.terms
-  pub few : node_count (subject_of t) ≤ MAX_TERM_NODES
-  pub constants : AllByRecursion (λ u. IsSome (rank_of t u)) (code_constants p.code)
+-- a program may be run on the table's subject: its instructions may be walked on it
+abbrev pub IsProgramTable : Sig → Program → Table → Type 0
+IsProgramTable sig p = IsCodeTable sig p.code

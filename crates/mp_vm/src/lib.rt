@@ -23,5 +23,4 @@ pub use laws::{a_text_is_a_program_or_has_a_fault, a_text_is_one_program_at_most
 pub use mp_program::{Program, ProgramError, ProgramRule, ProgramRules, write_program};
 pub use mp_walk::{Instr, Instrs, Numbers, RankedPair};
 pub use reader::read_program;
-pub use run::{run_program, run_ranked};
-pub use runner::Runner;
+pub use runner::{Runner, run_program};

@@ -13,7 +13,6 @@ ghost use Rattle.mp_walk.specs.Walkable.{numbered_names};
 ghost use Rattle.mp_walk.specs.WalkItems.{IsLeafItem};
 ghost use Rattle.mp_table.specs.Table.{subject_of};
 ghost use Rattle.mp_program.specs.ProgramView.{program_view, rule_view};
-ghost use Rattle.mp_program.specs.Reading.{IsValid};
 ghost use Rattle.mp_vm.specs.ProgramList.{IsAcceptedAt, IsGivenBy, IsPairOf, IsTestedBy, IsProgramList};
 ghost use Rattle.mp_vm.specs.ProgramList.{IsProgramTable};
 ghost use Rattle.mp_vm.specs.Runnable.{IsRunnable};
@@ -21,10 +20,9 @@ ghost use Rattle.mp_vm.specs.Runnable.{IsRunnable};
 use crate::needs::test_of;
 use mp_cond::holds;
 use mp_program::{Program, ProgramRule, numbered_name};
-use mp_subst::Pairs;
 use mp_table::Table;
 use mp_term::{Memory, Names, Signature};
-use mp_walk::{Code, Finds, RankedPair, Walk};
+use mp_walk::{Code, Finds, RankedPair, Walk, named_values};
 use std::alloc::Global;
 
 // The names of the first variables: v0, v1 and so on.
@@ -44,10 +42,12 @@ fn passes(
     sig: &Signature,
     program: &Program,
     rule: &ProgramRule,
+    table: &Table,
     walk: &Walk<'_>,
 ) -> Result<bool, Memory>
     requires sig { walk.now.sig ≡ sig.now }
     requires code { walk.now.code ≡ program.now.code }
+    requires table { walk.now.table ≡ table.now }
     requires runnable { IsRunnable sig.now (program_view program.now) }
     requires normal { IsNormal sig.now (subject_of walk.now.table) }
     requires few { node_count (subject_of walk.now.table) ≤ MAX_TERM_NODES }
@@ -61,7 +61,7 @@ fn passes(
         return Ok(true);
     };
     let names = numbered_names(alloc, rule.vars.len() as u32)?;
-    let subst = walk.named_subst(alloc, &names)?;
+    let subst = named_values(alloc, walk.trail(), table, &names)?;
     Ok(holds(sig, test, &subst))
 }
 
@@ -90,7 +90,7 @@ fn admitted<'a>(
     let Some(rule) = program.rules.get(number as usize) else {
         unreachable!()
     };
-    if !passes(alloc, sig, program, rule, walk)? {
+    if !passes(alloc, sig, program, rule, table, walk)? {
         return Ok(None);
     }
     let pair = RankedPair::new(alloc, number, &rule.vars, table, walk.trail())?;
@@ -153,46 +153,4 @@ pub(crate) fn accepted<'a>(
         add_pairs(alloc, sig, program, table, &walk, accepts, &mut found)?;
     }
     Ok(found.into_pairs())
-}
-
-/// The pairs of a rule's number and a substitution that the program accepts on the table's subject, each once, in order
-/// (`IsProgramList` of `specs/ProgramList.antt`), with values by ranks in the table. The program must be valid over the
-/// signature (`IsValid` of mp_program's `specs/Reading.antt`), and the table one on which it may be run
-/// (`IsProgramTable`), as is that of a normal subject with the program's constants. `Memory` comes where there is no
-/// room for the walk or the pairs.
-pub fn run_ranked<'a>(
-    alloc: Global,
-    sig: &Signature,
-    program: &'a Program,
-    table: &'a Table,
-) -> Result<Vec<RankedPair<'a>>, Memory>
-    requires valid { IsValid sig.now (program_view program.now) }
-    requires table { IsProgramTable sig.now (program_view program.now) table.now }
-    ensures pairs { IfOk result
-        (λ ps. IsProgramList sig.now (program_view program.now) (subject_of table.now) (pairs_of ps.items)) }
-    ensures table { IfOk result (λ ps. AreOver table.now ps.items) }
-{
-    let code = Code::new(alloc, sig, program.code.copy(alloc)?)?;
-    accepted(alloc, sig, program, &code, table)
-}
-
-/// The pairs that `run_ranked` gives, with copies of their terms, as a list in the same order (`IsProgramList`). The
-/// program must be valid over the signature (`IsValid`), and the table one on which it may be run (`IsProgramTable`).
-/// `Memory` comes where there is no room for the walk or the pairs.
-pub fn run_program(
-    alloc: Global,
-    sig: &Signature,
-    program: &Program,
-    table: &Table,
-) -> Result<Pairs, Memory>
-    requires valid { IsValid sig.now (program_view program.now) }
-    requires table { IsProgramTable sig.now (program_view program.now) table.now }
-    ensures { IfOk result (IsProgramList sig.now (program_view program.now) (subject_of table.now)) }
-{
-    let ranked = run_ranked(alloc, sig, program, table)?;
-    let mut pairs = Pairs::new(alloc);
-    for pair in &ranked {
-        pairs.push(pair.to_pair(alloc)?)?;
-    }
-    Ok(pairs)
 }

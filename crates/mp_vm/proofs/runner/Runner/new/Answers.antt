@@ -1,12 +1,8 @@
 use Rattle.std.proofs.Common.{◌∙◌, subst, sym}
-use Rattle.std.specs.Prelude.{Contains}
-use Rattle.mp_term.specs.Listing.{IsListing}
-use Rattle.mp_term.specs.Order.{tree_cmp}
-use Rattle.mp_walk.specs.CodeConstants.{code_constants}
+use Rattle.mp_walk.specs.CodeConstants.{AreCodeConstants}
 use Rattle.mp_walk.specs.Walkable.{IsWalkable}
 use Rattle.mp_program.specs.ProgramView.{program_view}
 use Rattle.mp_vm.proofs.RunnableLaws.{valid-runnable}
-use Rattle.mp_vm.proofs.RunnerLaws.{code_constants-listed}
 use Rattle.mp_vm.proofs.runner.Runner.new.Goals as goal
 
 pub new-requires : goal.new-requires
@@ -17,14 +13,12 @@ new-requires c =
 pub invariant_of-result : goal.invariant_of-result
 invariant_of-result c =
     let sig = c.args.sig.now in
-    let p = program_view c.args.program.now in
-    let runnable = valid-runnable sig p c.requires in
-    let ts = c.in_ok-constants.constants in
+    let runnable = valid-runnable sig (program_view c.args.program.now) c.requires in
+    let code = c.in_ok-code.ensures.instrs ∙ c.in_ok-copy.ensures in
     record {
       runnable = runnable;
-      instrs = c.in_ok-code.ensures.instrs ∙ c.in_ok-copy.ensures;
+      instrs = code;
       code = c.in_ok-code.ensures.planned;
-      constants = code_constants-listed sig p.code ts runnable.walkable
-          (subst (λ code. IsListing tree_cmp (Contains (code_constants code)) ts) c.as_slice.ensures
-          c.in_ok-constants.ensures.listing) c.in_ok-constants.ensures.few;
+      constants = subst (λ is. AreCodeConstants sig is c.in_ok-constants.constants) code
+          (c.in_ok-constants.ensures sig (subst (IsWalkable sig) (sym code) runnable.walkable));
     }
