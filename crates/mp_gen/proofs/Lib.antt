@@ -1,4 +1,3 @@
-mod NameLaws
 mod GeneratedLaws
 mod TreeTargets
 mod LeadLaws

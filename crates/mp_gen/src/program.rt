@@ -1,9 +1,8 @@
 //! The match program of rules.
 
-ghost use Rattle.std.specs.Prelude.{◌≡◌, ◌++◌, suc, length, map, slice_get, option_map, option_to_list, IfOk, OnOk};
-ghost use Rattle.std.specs.List.{AllByRecursion};
+ghost use Rattle.std.specs.Prelude.{◌≡◌, suc, length, map, option_map, IfOk};
 ghost use Rattle.mp_pattern.specs.CondView.{cond_tree};
-ghost use Rattle.mp_pattern.specs.Planned.{planned_rule, IsPlanned, rule_plan};
+ghost use Rattle.mp_pattern.specs.RuleView.{rule_tree};
 ghost use Rattle.mp_many.specs.Prefixes.{prefixes};
 ghost use Rattle.mp_program.specs.FormText.{program_text};
 ghost use Rattle.mp_program.specs.Reading.{IsProgramOf, IsValid};
@@ -15,32 +14,10 @@ ghost use Rattle.mp_gen.specs.Printable.{ArePrintable};
 
 use crate::laws::a_generated_program_is_valid;
 use mp_many::{Many, the_tree_is_of_the_prefixes};
-use mp_pattern::{BoxedCond, Cond, Plan, PlannedRule, copy_cond, plan_rules};
+use mp_pattern::{BoxedCond, Cond, Rule, copy_cond, variable_names};
 use mp_program::{Program, RuleLine, RuleTest, rules_of};
-use mp_term::{Memory, Names, Signature};
+use mp_term::Memory;
 use std::alloc::Global;
-
-// Adds the name of the variable of the number, where there is one.
-fn push_name(alloc: Global, plan: &Plan, variable: u32, names: &mut Names) -> Result<(), Memory>
-    ensures { OnOk result (names.new
-        ≡ names.old ++ option_to_list (option_map (λ v. v.name) (slice_get plan.now.variables variable))) }
-{
-    if let Some(name) = plan.var_name(variable) {
-        names.push(name.copy(alloc)?)?;
-    }
-    Ok(())
-}
-
-// The names of the variables of the plan, in order.
-fn names_of(alloc: Global, plan: &Plan) -> Result<Names, Memory>
-    ensures { IfOk result (λ ns. ns ≡ map (λ v. v.name) plan.now.variables) }
-{
-    let mut names = Names::new(alloc);
-    for variable in 0..plan.vars() {
-        push_name(alloc, plan, variable, &mut names)?;
-    }
-    Ok(names)
-}
 
 // What the line of a rule with the condition says of it.
 fn spelled(alloc: Global, condition: &Option<Cond>) -> Result<RuleTest, Memory>
@@ -53,28 +30,22 @@ fn spelled(alloc: Global, condition: &Option<Cond>) -> Result<RuleTest, Memory>
 }
 
 // The line of the rule.
-fn line_of(alloc: Global, sig: &Signature, planned: &PlannedRule<'_>) -> Result<RuleLine, Memory>
-    requires { IsPlanned sig.now (rule_plan planned.now) }
-    ensures { IfOk result (λ l. rule_line_view l ≡ spelled_rule (planned_rule planned.now)) }
+fn line_of(alloc: Global, rule: &Rule) -> Result<RuleLine, Memory>
+    ensures { IfOk result (λ l. rule_line_view l ≡ spelled_rule (rule_tree rule.now)) }
 {
-    let name = planned.rule.name.copy(alloc)?;
-    let vars = names_of(alloc, &planned.plan)?;
-    let test = spelled(alloc, &planned.rule.condition)?;
+    let name = rule.name.copy(alloc)?;
+    let vars = variable_names(alloc, &rule.pattern)?;
+    let test = spelled(alloc, &rule.condition)?;
     Ok(RuleLine { name, vars, test })
 }
 
 // The lines of the rules.
-fn lines_of(
-    alloc: Global,
-    sig: &Signature,
-    rules: &[PlannedRule<'_>],
-) -> Result<Vec<RuleLine>, Memory>
-    requires { AllByRecursion (IsPlanned sig.now) (map rule_plan rules.now) }
-    ensures { IfOk result (λ ls. map rule_line_view ls.items ≡ map spelled_rule (map planned_rule rules.now)) }
+fn lines_of(alloc: Global, rules: &[Rule]) -> Result<Vec<RuleLine>, Memory>
+    ensures { IfOk result (λ ls. map rule_line_view ls.items ≡ map spelled_rule (map rule_tree rules.now)) }
 {
     let mut lines = Vec::new(alloc);
     for rule in rules {
-        lines.push(line_of(alloc, sig, rule)?)?;
+        lines.push(line_of(alloc, rule)?)?;
     }
     Ok(lines)
 }
@@ -97,10 +68,8 @@ pub fn generate(alloc: Global, many: &Many<'_>) -> Result<Program, Memory>
     if tree.len() >= u32::MAX as usize {
         return Err(Memory);
     }
-    let sig = many.sig();
-    let planned = plan_rules(alloc, sig, many.rules().as_slice())?;
-    let lines = lines_of(alloc, sig, &planned)?;
-    let (rules, tests) = rules_of(alloc, sig, lines)?;
+    let lines = lines_of(alloc, many.rules().as_slice())?;
+    let (rules, tests) = rules_of(alloc, many.sig(), lines)?;
     let code = tree.instrs().copy(alloc)?;
     the_tree_is_of_the_prefixes();
     a_generated_program_is_valid();

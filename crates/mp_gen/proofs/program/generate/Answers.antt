@@ -1,9 +1,6 @@
 use Rattle.std.proofs.Common.{◌≡◌, suc, [], length, map, sym, ap, ◌∙◌, subst, arith}
-use Rattle.std.specs.List.{AllByRecursion, flat_map}
+use Rattle.std.specs.List.{flat_map}
 use Rattle.mp_pattern.specs.Firsts.{firsts_after}
-use Rattle.mp_pattern.specs.Planned.{planned_rule, IsPlanned, rule_plan}
-use Rattle.mp_pattern.specs.RuleView.{rule_tree}
-use Rattle.mp_pattern.specs.SoundRule.{IsSoundRule}
 use Rattle.mp_program.specs.FormText.{program_text}
 use Rattle.mp_program.specs.Reading.{IsProgramOf, IsValid}
 use Rattle.mp_program.specs.RightForm.{IsShort}
@@ -13,29 +10,16 @@ use Rattle.mp_gen.specs.Generated.{spelled_rule, generated}
 use Rattle.mp_gen.proofs.GeneratedLaws.{generated-parts}
 use Rattle.mp_gen.proofs.program.generate.Goals as goal
 
-pub plan_rules-requires : goal.plan_rules-requires
-plan_rules-requires c =
-    let many = c.args.many.now in
-    subst (λ sig. AllByRecursion (IsSoundRule sig) (map rule_tree c.as_slice.result.now)) (sym c.sig-sig.ensures)
-    (subst (λ rs. AllByRecursion (IsSoundRule many.sig) rs) (sym (c.as_slice.ensures ∙ c.rules.ensures.rules))
-    c.rules.ensures.sound.each)
-
-pub lines_of-requires : goal.lines_of-requires
-lines_of-requires c =
-    subst (λ ps. AllByRecursion (IsPlanned c.sig-sig.result.now) (map rule_plan ps)) (sym c.deref.ensures.value)
-    c.in_ok-planned.ensures.planned
-
 pub returns-clause-program : goal.returns-clause-program
 returns-clause-program c =
     let many = c.args.many.now in
     let lines = map rule_line_view c.in_ok-lines.lines.items in
     let told = c.in_ok-rules.ensures in
     generated-parts many.sig many.rules lines c.in_ok-rules.tests c.in_ok-rules.rules c.in_ok-code.code
-    (c.in_ok-lines.ensures ∙ ap (λ ps. map spelled_rule (map planned_rule ps)) c.deref.ensures.value
-    ∙ ap (map spelled_rule) (c.in_ok-planned.ensures.rules ∙ c.as_slice.ensures ∙ c.rules.ensures.rules))
+    (c.in_ok-lines.ensures ∙ ap (map spelled_rule) (c.as_slice.ensures ∙ c.rules.ensures.rules))
     (told.tests ∙ ap (λ s. firsts_after (same_cond s) [] (flat_map (λ r. spelled_test r.vars r.test) lines))
-    c.sig-sig.ensures)
-    (told.rules ∙ ap (λ s. map (rule_of s c.in_ok-rules.tests) lines) c.sig-sig.ensures)
+    c.sig.ensures)
+    (told.rules ∙ ap (λ s. map (rule_of s c.in_ok-rules.tests) lines) c.sig.ensures)
     (c.in_ok-code.ensures ∙ c.instrs.ensures ∙ c.code-tree.ensures.tree)
 
 pub returns-clause-short : goal.returns-clause-short
