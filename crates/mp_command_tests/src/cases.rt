@@ -310,158 +310,6 @@ s r {y -> a, x -> u(b)}
 s r {y -> b, x -> u(a)}
 ";
 
-/// The example files of the language's page, in the same way.
-pub const EXAMPLES: &str = "\
-op and 2; op or 2; op not 1;
-rule idempotent: and(x_, x_);
-rule absorption: or(x_, and(x_, y_));
-rule doubleNegation: not(not(x_));
-rule deMorgan: not(and(x_, y_));
-subject both: and(p, p); subject mixed: and(p, q);
-subject absorbed: or(not(p), and(not(p), q)); subject twice: not(not(and(p, q)));
-subject negated: not(and(not(p), q));
-----
-both idempotent {x -> p}
-absorbed absorption {x -> not(p), y -> q}
-twice doubleNegation {x -> and(p, q)}
-negated deMorgan {x -> not(p), y -> q}
-====
-op word 0+; op join 1+ assoc infix ~; kind vowel: a e i o u;
-rule initialVowel: word(first_vowel, rest___);
-rule sameEnds: word(end_, middle___, end_);
-rule halves: word(half__, half__);
-rule numbered: word(letters__, number_num);
-rule cut: (front_ ~ back_);
-rule doubled: (part_ ~ part_);
-subject otto: word(o, t, t, o); subject papa: word(p, a, p, a);
-subject version: word(a, b, 7); subject abc: (a ~ (b ~ c));
-subject abab: ((a ~ b) ~ (a ~ b));
-----
-otto initialVowel {first -> o, rest -> (t, t, o)}
-otto sameEnds {end -> o, middle -> (t, t)}
-papa halves {half -> (p, a)}
-version initialVowel {first -> a, rest -> (b, 7)}
-version numbered {letters -> (a, b), number -> 7}
-abc cut {front -> a, back -> (b ~ c)}
-abc cut {front -> (a ~ b), back -> c}
-abab cut {front -> a, back -> (b ~ a ~ b)}
-abab cut {front -> (a ~ b), back -> (a ~ b)}
-abab cut {front -> (a ~ b ~ a), back -> b}
-abab doubled {part -> (a ~ b)}
-====
-op set 0+ comm; op plus 1+ assoc comm one infix +;
-rule member: set(a, rest___);
-rule pair: set(x_, y_);
-rule parts: (x_ + y_);
-subject abc: set(b, a, c); subject ab: set(a, b); subject aa: set(a, a);
-subject sum: (a + b + c);
-----
-abc member {rest -> {b, c}}
-ab member {rest -> {b}}
-ab pair {x -> a, y -> b}
-ab pair {x -> b, y -> a}
-aa member {rest -> {a}}
-aa pair {x -> a, y -> a}
-sum parts {x -> a, y -> (b + c)}
-sum parts {x -> b, y -> (a + c)}
-sum parts {x -> c, y -> (a + b)}
-sum parts {x -> (a + b), y -> c}
-sum parts {x -> (a + c), y -> b}
-sum parts {x -> (b + c), y -> a}
-====
-op plus 1+ assoc comm one infix +; op times 1+ assoc comm one infix *;
-op power 1+ one infix ^; op pair 2;
-rule power: times(factor_num, power(base_, exponent_:1));
-rule monomial: times(factor_:1, power(base_, exponent_:1));
-subject cube: (5 * (x ^ 3)); subject linear: (5 * x); subject bare: x;
-rule offset: plus(by_:0, x_);
-subject sum: (a + b);
-rule nothing: plus(x_:0);
-rule firsts: pair(first_, _);
-rule numbers: pair(_num, _num);
-subject both: pair(1, 2);
-----
-cube power {base -> x, exponent -> 3, factor -> 5}
-cube power {base -> (x ^ 3), exponent -> 1, factor -> 5}
-cube monomial {base -> 5, exponent -> 1, factor -> (x ^ 3)}
-cube monomial {base -> x, exponent -> 3, factor -> 5}
-cube monomial {base -> (x ^ 3), exponent -> 1, factor -> 5}
-cube monomial {base -> (5 * (x ^ 3)), exponent -> 1, factor -> 1}
-cube offset {x -> (5 * (x ^ 3)), by -> 0}
-linear power {base -> x, exponent -> 1, factor -> 5}
-linear monomial {base -> 5, exponent -> 1, factor -> x}
-linear monomial {base -> x, exponent -> 1, factor -> 5}
-linear monomial {base -> (5 * x), exponent -> 1, factor -> 1}
-linear offset {x -> (5 * x), by -> 0}
-bare monomial {base -> x, exponent -> 1, factor -> 1}
-bare offset {x -> x, by -> 0}
-sum monomial {base -> (a + b), exponent -> 1, factor -> 1}
-sum offset {x -> a, by -> b}
-sum offset {x -> b, by -> a}
-sum offset {x -> (a + b), by -> 0}
-sum nothing {x -> (a + b)}
-both monomial {base -> pair(1, 2), exponent -> 1, factor -> 1}
-both offset {x -> pair(1, 2), by -> 0}
-both firsts {first -> 1}
-both numbers {}
-====
-op f 2; op set 0+ comm; op list 0+; op plus 1+ assoc comm one infix +; kind v: x y z;
-rule ordered: f(a_, b_) if less($a, $b);
-subject ab: f(a, b); subject ba: f(b, a);
-rule several: set(left__, right___) if count($left) >= 2;
-subject three: set(a, b, c);
-rule constant: f(sum_, var_v) if free($var, $sum) and not same($sum, 0);
-subject linear: f((a + (x + 1)), x); subject number: f((a + 1), x); subject zero: f(0, x);
-rule either: list(all__)
-    if [count($all) == 1 and head($all, plus) and size($all) <= 3] or kind($all, num) and count($all) == 2;
-subject sum: list((a + b)); subject long: list((a + b + c)); subject numbers: list(3, 7);
-----
-ab ordered {a -> a, b -> b}
-three several {left -> {a, b}, right -> {c}}
-three several {left -> {a, c}, right -> {b}}
-three several {left -> {b, c}, right -> {a}}
-three several {left -> {a, b, c}, right -> {}}
-number constant {sum -> (1 + a), var -> x}
-zero ordered {a -> 0, b -> x}
-sum either {all -> ((a + b))}
-numbers either {all -> (3, 7)}
-====
-op hand 0+ comm; op trick 0+; op card 2;
-rule pair: hand(card(rank_, _), card(rank_, _), rest_{3});
-subject five: hand(card(7, clubs), card(7, hearts), card(9, spades), card(jack, clubs), card(8, clubs));
-subject four: hand(card(7, clubs), card(7, hearts), card(9, spades), card(jack, clubs));
-rule followed: trick(led_, others_{2+});
-rule halves: trick(first_{2}, last_{2});
-subject ab: trick(a, b); subject abc: trick(a, b, c); subject abcd: trick(a, b, c, d);
-----
-five pair {rank -> 7, rest -> {card(8, clubs), card(9, spades), card(jack, clubs)}}
-abc followed {led -> a, others -> (b, c)}
-abcd followed {led -> a, others -> (b, c, d)}
-abcd halves {first -> (a, b), last -> (c, d)}
-====
-op plus 1+ assoc comm one infix +; op times 1+ assoc comm one infix *; op power 2 infix ^; op d 2;
-kind variable: x y;
-rule constant: d(c_, x_variable) -> 0 if free($x, $c);
-rule itself: d(x_variable, x_variable) -> 1;
-rule sum: d(plus(first_, rest__), x_variable) -> (d($first, $x) + d(plus($rest), $x));
-rule product: d(times(first_, rest__), x_variable) ->
-    ((d($first, $x) * times($rest)) + ($first * d(times($rest), $x)));
-rule power: d(power(x_variable, 2), x_variable) -> (2 * $x);
-subject number: d(7, x); subject linear: d((x + 1), x); subject square: d((x ^ 2), x);
-subject mixed: d((x * y), x);
-----
-number constant {c -> 7, x -> x}
-linear sum {first -> 1, rest -> {x}, x -> x}
-linear sum {first -> x, rest -> {1}, x -> x}
-square power {x -> x}
-mixed product {first -> x, rest -> {y}, x -> x}
-mixed product {first -> y, rest -> {x}, x -> x}
-====
-op list 0+; op item 2; subject shopping: list(item(milk, 1), item(bread, 2), item(eggs, 12));
-edit shopping: 0.1 -> 2, 1 -> [item(rye, 1), item(wheat, 1)], 2 -> []; edit shopping: . -> list();
-----
-";
-
 /// A rule on single terms, tuples and multisets, before its condition.
 pub const BEFORE: &str = "\
 op h 10; op l 0+; op s 0+ comm; op f 2; op g 1; kind v: a b; kind w: c;
@@ -599,6 +447,14 @@ op f 2; rule r: f(x_, y_); subject s: f(a, b);
 ----
 matchpy: none: cannot open
 ====
+2 match
+2 show t u
+----
+op f 2; rule r: f(x_, y_); subject s: f(a, b);
+----
+----
+usage: matchpy ACTION [FILE ..] [--engine E] [--limit N] [--resume TOKEN] [--max N] [--from PROGRAM]
+====
 0 show t
 ----
 op plus 1+ assoc comm one infix +; subject s: plus(b, (c + a));
@@ -725,52 +581,8 @@ u(u(u(u(u(u(u(u(u(u(u(u(u(u(u(u(u(u(u(u(u(u(u(u(u(u(u(u(u(u(u(u(u(u(u(u(u(u(u(u(
 u(u(u(u(u(u(u(u(u(u(u(u(u(u(u(u(u(u(u(u(u(u(u(u(u(u(u(u(u(u(u(u(u(u(u(u(u(u(u(u(u(u(u(u(u(u(u(u(u(u(u(|1:221: TooDeep\n\
 op g 0+; subject s: g(g(a, b)); edit s: 0 -> a, 0.1 -> b;|1:49: Overlap\n\
 op f 1; subject s: f(a); edit s: 0 -> [a, b];|1:34: Arity\n\
-rule r: f(a|1:12: Syntax\n\
-op f 2; subject s: (a + b * c);|1:27: Syntax\n\
 op f 1001;|1:6: TooMany\n\
 op f 2; subject s: f(a);|1:20: Arity\n\
 op p 3+ infix +; subject s: (a + b);|1:29: Arity\n\
-kind num: a;|1:6: DuplicateName\n\
-op g 0+; rule r: g(x__) -> $x;|1:28: LooseSequence\n\
-op g 0+; rule r: g(x_{2}, x_{3});|1:27: KindClash\n\
-op g 0+; op f 2; rule r: g(x__) -> f(a, $x);|1:36: Arity\n\
-op g 0+; rule r: g(x_{1001});|1:23: TooMany\n\
-subject s: a; edit s: . -> [];|1:23: Arity\n\
 op f 2; rule r: f(x_, y_) if less($x, $z);|1:39: UnboundVariable\n\
-op g 0+; rule r: g(x_{2}) if less($x, a);|1:35: ConditionKind\n\
 subject s: a; edit s: . -> x_;|1:28: WildcardInTerm";
-
-/// The file of words that are refused.
-pub const FILE: &str = "op f 2; rule r: f(x_, y_); subject s: f(a, b);";
-
-/// Words that are refused, before a bar each.
-pub const REFUSED: &str = "\
-match|\n\
-match -t|\n\
-match t --limit 0|\n\
-match t --engine two|\n\
-match t --help|\n\
-rewrite t --resume s/r/2;0;1|\n\
-match t t|\n\
-run t|\n\
-compile - --from -|\n\
-rewrite t --max 1000001|\n\
-rewrite t --max 00000000001|\n\
-rewrite t --max +1|\n\
-rewrite t --max|\n\
-match t --max 1|\n\
-match t --engine program --resume s/r/2|\n\
-run - -|\n\
-run t p --limit 2|\n\
-match t --from p|\n\
-match t --engine net --resume s/r/2;0;1|\n\
-match t --engine programs|\n\
-rewrite t --engine net|\n\
-match t --engine many --resume s/r/2;0;1|\n\
-rewrite t --engine many|\n\
-show|\n\
-|";
-
-/// What is said of them.
-pub const USAGE: &str =
-    "usage: matchpy ACTION [FILE ..] [--engine E] [--limit N] [--resume TOKEN] [--max N] [--from PROGRAM]\n";

@@ -15,7 +15,7 @@ use std::alloc::Global;
 use std::process::Abort;
 
 // Stops unless the nets find the pairs of the lines on the subject, twice through one probe, and read so many nodes
-// each time: no node more than once for each net.
+// each time, at most the nodes of the subject for each net.
 fn check_found(
     rt: &impl Abort,
     alloc: Global,
@@ -58,7 +58,7 @@ fn check_row(rt: &impl Abort, alloc: Global, file: &File, row: &Row)
 }
 
 #[test]
-fn nets_find_each_pair_once_in_order_and_read_no_node_twice(rt: HostRuntime) {
+fn nets_find_each_pair_once_in_order_with_so_many_reads(rt: HostRuntime) {
     for row in ROWS {
         check_row(&rt, rt.alloc(), &file(&rt, rt.alloc(), row.1), row);
     }

@@ -1,14 +1,12 @@
 //! Runs of the whole command over files in memory.
 
-use crate::cases::{
-    BEFORE, BEHIND, CONDITIONS, EXAMPLES, FAULTS, FILE, HOLDS, MATCHES, REFUSED, RUNS, USAGE,
-};
+use crate::cases::{BEFORE, BEHIND, CONDITIONS, FAULTS, HOLDS, MATCHES, RUNS};
 use crate::changes::CHANGES;
 use crate::compiled::COMPILED;
 use crate::listed::LISTED;
 use crate::netted::NETTED;
 use crate::ran::{SOUND, check_run, ran};
-use crate::texts::parts;
+use crate::texts::{check_lines, parts};
 use crate::walked::WALKED;
 use std::alloc::Global;
 use std::process::Abort;
@@ -30,17 +28,6 @@ enum Sort {
     Fault,
     // The status and the words of each run, the file, what is written, and what is said.
     Run,
-    // Words that are refused.
-    Refused,
-}
-
-// Stops unless the printed lines are these, in whatever order.
-fn check_lines(rt: &impl Abort, printed: &str, lines: &str) {
-    for line in lines.split_inclusive('\n') {
-        let (before, _) = parts(rt, printed, line);
-        assert!(rt; before.is_empty() || before.ends_with('\n'), "{line}");
-    }
-    assert!(rt; printed.len() == lines.len(), "{lines}");
 }
 
 fn check_engine(rt: &impl Abort, alloc: Global, words: &str, file: &str, lines: &str) {
@@ -104,10 +91,6 @@ fn check_matched(rt: &impl Abort, alloc: Global, file: &str, lines: &str) {
     check_run(rt, alloc, "match t", file, status, lines, "");
 }
 
-fn check_refused(rt: &impl Abort, alloc: Global, words: &str) {
-    check_run(rt, alloc, words, FILE, 2, "", USAGE);
-}
-
 // Tries a case, of which these are the parts before and behind the first mark.
 fn check(rt: &impl Abort, alloc: Global, sort: Sort, front: &str, back: &str) {
     match sort {
@@ -118,14 +101,13 @@ fn check(rt: &impl Abort, alloc: Global, sort: Sort, front: &str, back: &str) {
         Sort::Condition => check_condition(rt, alloc, front, back),
         Sort::Fault => check_fault(rt, alloc, front, back),
         Sort::Run => check_words(rt, alloc, front, back),
-        Sort::Refused => check_refused(rt, alloc, front),
     }
 }
 
 // Tries each case of the table, whose cases are lines or files.
 fn check_all(rt: &impl Abort, alloc: Global, sort: Sort, table: &str) {
     let (between, mark) = match sort {
-        Sort::Condition | Sort::Fault | Sort::Refused => ("\n", "|"),
+        Sort::Condition | Sort::Fault => ("\n", "|"),
         _ => ("====\n", "----\n"),
     };
     for case in table.split(between) {
@@ -137,25 +119,21 @@ fn check_all(rt: &impl Abort, alloc: Global, sort: Sort, table: &str) {
 #[test]
 fn each_match_is_printed_once_in_order(rt: HostRuntime) {
     check_all(&rt, rt.alloc(), Sort::Matched, MATCHES);
-    check_all(&rt, rt.alloc(), Sort::Matched, EXAMPLES);
 }
 
 #[test]
 fn a_walk_over_all_rules_finds_the_same_matches(rt: HostRuntime) {
     check_all(&rt, rt.alloc(), Sort::Walked, MATCHES);
-    check_all(&rt, rt.alloc(), Sort::Walked, EXAMPLES);
 }
 
 #[test]
 fn the_program_of_the_rules_accepts_the_same_matches(rt: HostRuntime) {
     check_all(&rt, rt.alloc(), Sort::Programmed, MATCHES);
-    check_all(&rt, rt.alloc(), Sort::Programmed, EXAMPLES);
 }
 
 #[test]
 fn a_list_that_is_cut_goes_on_behind_its_token(rt: HostRuntime) {
     check_all(&rt, rt.alloc(), Sort::Resumed, MATCHES);
-    check_all(&rt, rt.alloc(), Sort::Resumed, EXAMPLES);
 }
 
 #[test]
@@ -175,9 +153,4 @@ fn words_and_files_decide_what_is_printed(rt: HostRuntime) {
 #[test]
 fn the_first_fault_is_told_with_its_place(rt: HostRuntime) {
     check_all(&rt, rt.alloc(), Sort::Fault, FAULTS);
-}
-
-#[test]
-fn other_words_are_refused(rt: HostRuntime) {
-    check_all(&rt, rt.alloc(), Sort::Refused, REFUSED);
 }

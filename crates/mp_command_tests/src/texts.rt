@@ -44,6 +44,19 @@ pub fn write_line(
     assert!(rt; put(sink, b"\n").is_ok());
 }
 
+// How often the line stands in the text.
+fn times(text: &str, line: &str) -> usize {
+    text.lines().filter(|other| *other == line).count()
+}
+
+/// Stops unless the lines of the text are these, in whatever order.
+pub fn check_lines(rt: &impl Abort, text: &str, lines: &str) {
+    assert!(rt; text.len() == lines.len(), "{lines}");
+    for line in lines.lines() {
+        assert!(rt; times(text, line) == times(lines, line), "{line}");
+    }
+}
+
 /// Stops unless the pairs are those of the lines.
 pub fn check_pairs(rt: &impl Abort, alloc: Global, sig: &Signature, pairs: &Pairs, lines: &str) {
     let mut sink = sink(rt, alloc);

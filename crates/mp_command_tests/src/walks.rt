@@ -5,8 +5,9 @@ ghost use Rattle.mp_text.specs.File.{file_tree, subject_tree};
 ghost use Rattle.mp_text.specs.Sound.{IsSoundFile, IsSoundSubject};
 ghost use Rattle.mp_many.specs.Many.{IsWalkTable};
 
-use crate::texts::{check_pairs, file, parts, sink, write_line};
+use crate::texts::{check_lines, check_pairs, file, sink, write_line};
 use crate::walk_rows::{ROWS, Row};
+use mp_io::MemorySink;
 use mp_many::{Many, Walk};
 use mp_table::Table;
 use mp_term::Memory;
@@ -33,17 +34,19 @@ fn has_entries(walk: &Walk<'_>) -> bool
     }
 }
 
-// Stops unless the item of the walk is that of one of the lines.
-fn check_item(rt: &impl Abort, alloc: Global, many: &Many<'_>, walk: &Walk<'_>, lines: &str)
+// Writes the line of the item of the walk.
+fn write_item(
+    rt: &impl Abort,
+    alloc: Global,
+    many: &Many<'_>,
+    walk: &Walk<'_>,
+    sink: &mut MemorySink,
+)
     requires { IsSome walk.now.item }
 {
+    assert!(rt; has_entries(walk));
     let subst = walk.subst(alloc).expect(rt, "memory");
-    let mut sink = sink(rt, alloc);
-    write_line(rt, alloc, many.sig(), walk.rule(), &subst, &mut sink);
-    let line = str::from_utf8(sink.content()).expect(rt, lines);
-    let (before, _) = parts(rt, lines, line);
-    assert!(rt; before.is_empty() || before.ends_with('\n'), "{line}");
-    assert!(rt; has_entries(walk), "{line}");
+    write_line(rt, alloc, many.sig(), walk.rule(), &subst, sink);
 }
 
 // Stops unless the walk gives exactly the items of the lines, in any order, and then ends.
@@ -51,12 +54,15 @@ fn check_walk(rt: &impl Abort, alloc: Global, many: &Many<'_>, table: &Table, li
     requires { IsWalkTable many.now table.now }
 {
     let mut walk = Walk::begin(alloc, many, table).expect(rt, "memory");
+    let mut sink = sink(rt, alloc);
     for _ in lines.lines() {
         assert!(rt; walk.next().expect(rt, "memory"), "{lines}");
-        check_item(rt, alloc, many, &walk, lines);
+        write_item(rt, alloc, many, &walk, &mut sink);
     }
     assert!(rt; !walk.next().expect(rt, "memory"), "{lines}");
     assert!(rt; !walk.next().expect(rt, "memory"), "{lines}");
+    let items = str::from_utf8(sink.content()).expect(rt, lines);
+    check_lines(rt, items, lines);
 }
 
 // Stops unless walks over the rules give what is wanted on the subject of that number, and the rules admit what is

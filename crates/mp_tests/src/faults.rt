@@ -2,7 +2,6 @@
 
 use crate::case::{Sort, Table, check_table};
 use crate::reading::{file, plan};
-use mp_text::{fault_is_computed, file_is_computed};
 
 // Statements, names, operations and their arguments.
 const STATEMENTS: &str = "\
@@ -386,10 +385,4 @@ fn the_first_fault_of_a_file_stands_at_its_token(rt: HostRuntime) {
     for table in TABLES {
         check_table(&rt, rt.alloc(), &file.sig, &plan, table);
     }
-}
-
-#[test]
-fn laws_do_nothing(_rt: HostRuntime) {
-    file_is_computed();
-    fault_is_computed();
 }
