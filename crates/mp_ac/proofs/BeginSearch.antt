@@ -41,8 +41,8 @@ use Rattle.mp_search.specs.declared.stage.Stage.TheVariants.{Before, Standing}
 use Rattle.mp_search.proofs.GroundsHeld.{grounds-held}
 use Rattle.mp_ac.specs.Args.{args_of}
 use Rattle.mp_ac.specs.Asked.{IsAsked, cost, root_list}
-use Rattle.mp_ac.specs.Begin.{AreParts, IsNodeOf}
-use Rattle.mp_ac.specs.Candidates.{given_terms}
+use Rattle.mp_ac.specs.Begin.{AreParts}
+use Rattle.mp_ac.specs.Candidates.{IsNodeOf, given_terms}
 use Rattle.mp_ac.specs.CommPlan.{IsCommPlanOf, IsNumbered, IsNumberedPattern, nodes_below, root_op}
 use Rattle.mp_ac.specs.CommPlans.{AreLeads}
 use Rattle.mp_ac.specs.CommRoom.{IsRoomFor}
@@ -52,7 +52,7 @@ use Rattle.mp_ac.specs.Search.{IsOver, all_items, asked_of, cost_of, given_of, k
 use Rattle.mp_ac.specs.Seek.{ArePicksOf, IsCommutative, IsLeading, with_children}
 use Rattle.mp_ac.specs.Stage.{IsAmong}
 use Rattle.mp_ac.specs.TakesOne.{takes_one}
-use Rattle.mp_ac.specs.declared.begin.Node.{Node}
+use Rattle.mp_ac.specs.declared.node.Node.{Node}
 use Rattle.mp_ac.specs.declared.comm_plan.CommPlan.{CommPlan}
 use Rattle.mp_ac.specs.declared.comm_plans.CommPlans.{CommPlans}
 use Rattle.mp_ac.specs.declared.search.CommSearch.{CommSearch}

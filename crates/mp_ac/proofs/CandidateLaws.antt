@@ -24,8 +24,9 @@ use Rattle.mp_table.specs.declared.rank.Rank.{Rank}
 use Rattle.mp_theory.specs.Shape.{shape}
 use Rattle.mp_search.proofs.PortionLaws.{AreFrom, Rise, rise-sorted}
 use Rattle.mp_ac.proofs.Parts.{taken-more}
-use Rattle.mp_ac.specs.Candidates.{AreCandidates, AreChoices, AreEntries, AreLeadEntries, IsBarred, IsFound}
+use Rattle.mp_ac.specs.Candidates.{AreCandidates, AreChoices, AreEntries, AreLeadEntries, IsBarred, IsFound, IsKept}
 use Rattle.mp_ac.specs.Candidates.{given_terms, is_same, unasked}
+use Rattle.mp_ac.specs.declared.node.Node.{Node}
 use Rattle.mp_ac.specs.Clash.{clash}
 use Rattle.mp_ac.specs.CommPlans.{IsLead, child_at}
 use Rattle.mp_ac.specs.declared.candidates.Found.{Found}
@@ -177,6 +178,18 @@ found-unasked t P rs = record {
   within = omega arith;
   known = λ node is. cc;
 }
+
+-- what is known of a part that is kept of a node
+pub found-part : (t : Table) (P : List Tree → List Rank → Type 0) (rs : List Rank) (es : List Found) (number : ℕ)
+    (n : Node) (r : ℕ × ℕ) (k : IsKept es number n r) → IsFound t P rs k.entry
+    → ((r.0 ≤ r.1) × (r.1 ≤ length rs)) × P (given_terms (term_at t n.node) n.alone) (take (r.1 - r.0) (drop r.0 rs))
+found-part t P rs es number n r k h =
+    subst (λ (q : ℕ × ℕ). ((q.0 ≤ q.1) × (q.1 ≤ length rs))
+    × P (given_terms (term_at t n.node) n.alone) (take (q.1 - q.0) (drop q.0 rs))) (sym k.part) (
+      (h.onward, h.within),
+      subst (λ b. P (given_terms (term_at t n.node) b) (take (k.entry.end - k.entry.from) (drop k.entry.from rs)))
+          k.alone (h.known n.node k.node),
+    )
 
 -- what stands at an index
 pub index-found : {X : Type 0} (xs : List X) (i : ℕ) (x : X) → i < length xs → x ≡ get_or xs i x

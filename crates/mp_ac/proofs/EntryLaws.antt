@@ -11,21 +11,17 @@ use Rattle.mp_ac.specs.Matcher.{IsMatcher, entries_of, entry_of}
 use Rattle.mp_ac.proofs.LevelEntries as levels
 use Rattle.mp_ac.proofs.PlanNodes.{plan-nodes_below}
 
-le-true : (a b : ℕ) → a ≤ b → nat_le a b ≡ true
-le-true a b h = grind (arith, nat_tests)
-
-le-false : (a b : ℕ) → b < a → nat_le a b ≡ false
-le-false a b h = grind (arith, nat_tests)
-
 module _ (m : CommMatcher) (h : IsMatcher m) where
   -- there is none up to the matcher's node
   pub none-before : (node : ℕ) → node ≤ m.node → None ≡ entry_of m node
-  none-before node l = sym (ap (λ b. if b then None else slice_get (entries_of m) (node - m.node - 1))
-      (le-true node m.node l))
+  none-before node l =
+      let test : nat_le node m.node ≡ true = grind (arith, nat_tests) in
+      sym (ap (λ b. if b then None else slice_get (entries_of m) (node - m.node - 1)) test)
 
   behind-is : (node : ℕ) → m.node < node → entry_of m node ≡ slice_get (entries_of m) (node - m.node - 1)
-  behind-is node l = ap (λ b. if b then None else slice_get (entries_of m) (node - m.node - 1))
-      (le-false node m.node l)
+  behind-is node l =
+      let test : nat_le node m.node ≡ false = grind (arith, nat_tests) in
+      ap (λ b. if b then None else slice_get (entries_of m) (node - m.node - 1)) test
 
   -- how many nodes there are below it
   count : (n : ℕ) → n ≡ length m.plan.nodes → n ≡ nodes_below m.plan.pattern + 1

@@ -3,8 +3,8 @@ use Rattle.std.proofs.Common.{◌≡◌, ◌<◌, ◌≤◌, ◌+◌, ℕ, List,
 use Rattle.std.specs.Prelude.{MatchBool, Some, drop, slice_get}
 use Rattle.std.specs.List.{AllByRecursion}
 use Rattle.mp_pattern.specs.Fits.{Table}
-use Rattle.mp_pattern.specs.PatternTree.{Pattern, symbol_pattern, app_pattern, wild_pattern, Patterns, no_patterns}
-use Rattle.mp_pattern.specs.PatternTree.{more_patterns, patterns, pattern_list}
+use Rattle.mp_pattern.specs.PatternTree.{Pattern, symbol_pattern, app_pattern, wild_pattern}
+use Rattle.mp_pattern.specs.PatternLists.{patterns-pattern_list}
 use Rattle.mp_pattern.specs.Value.{Subst}
 use Rattle.mp_pattern.specs.declared.limits.TheConstants.{MAX_VARIABLES}
 use Rattle.mp_table.specs.Table.{terms_at}
@@ -21,12 +21,8 @@ use Rattle.mp_ac.specs.Seek.{IsFoundOf, IsSought, items_sought, seek_cost, with_
 use Rattle.mp_ac.specs.Stage.{looked_for}
 use Rattle.mp_ac.proofs.StepLaws.{step-finds, step-standing}
 
-pub patterns-list : (ps : Patterns) → patterns (pattern_list ps) ≡ ps
-patterns-list no_patterns = refl
-patterns-list (more_patterns p ps) = ap (λ qs. more_patterns p qs) (patterns-list ps)
-
 pub with_children-none : (p : Pattern) → with_children [] p ≡ p
-with_children-none (app_pattern g ps) = ap (λ qs. app_pattern g qs) (patterns-list ps)
+with_children-none (app_pattern g ps) = ap (λ qs. app_pattern g qs) (patterns-pattern_list ps)
 with_children-none (symbol_pattern n) = refl
 with_children-none (wild_pattern w x) = refl
 

@@ -1,27 +1,17 @@
 -- How a search begins.
 use Rattle.std.specs.Prelude.{◌≡◌, ◌⊎◌, ℕ, true, List, [], ◌∷◌, ◌++◌, slice_get}
 use Rattle.std.specs.List.{AllByRecursion}
-use Rattle.std.specs.List.Sorted.{IsSorted}
 use Rattle.mp_term.specs.Signature.{Sig}
 use Rattle.mp_pattern.specs.PatternTree.{Pattern, app_pattern, patterns}
 use Rattle.mp_term.specs.Tree.{Tree}
 use Rattle.mp_table.specs.declared.rank.Rank.{Rank}
-use Rattle.mp_table.specs.Table.{Table, HasRank, HasRanks, rank_cmp, term_at, terms_at}
-use Rattle.mp_ac.specs.declared.begin.Node.{Node}
-use Rattle.mp_ac.specs.Args.{args_of}
+use Rattle.mp_table.specs.Table.{Table}
 use Rattle.mp_ac.specs.declared.comm_plan.CommPlan.{CommPlan}
 use Rattle.mp_ac.specs.declared.comm_plans.CommPlans.{CommPlans}
-use Rattle.mp_ac.specs.Candidates.{AreChoices, given_terms}
+use Rattle.mp_ac.specs.Candidates.{AreChoices}
 use Rattle.mp_ac.specs.CommPlan.{IsCommPlanOf}
 use Rattle.mp_ac.specs.CommPlans.{AreLeads}
 use Rattle.mp_ac.specs.TakesOne.{takes_one}
-
--- the node is the table's, and what its children take together stands in order
-pub record IsNodeOf (t : Table) (n : Node) : Type 0 where
-  pub node : HasRank t n.node
-  pub ranks : HasRanks t (args_of n.args)
-  pub ascending : IsSorted rank_cmp (args_of n.args)
-  pub terms : terms_at t (args_of n.args) ≡ given_terms (term_at t n.node) n.alone
 
 -- the pattern's leading children take one term each and stand by these numbers, and the plan is that of the others
 pub record AreParts (sig : Sig) (x : CommPlans) (p : Pattern) (ns : List ℕ) (c : CommPlan) : Type 0 where

@@ -2,23 +2,32 @@
 use Rattle.std.specs.Prelude.{◌≡◌, ◌≤◌, ◌-◌, ◌⊎◌, ℕ, Bool, true, false, List, [], ◌∷◌, take, drop, length, slice_get}
 use Rattle.std.specs.Prelude.{Option, Some, None, nat_eq, if◌then◌else◌}
 use Rattle.std.specs.List.{AllByRecursion}
-use Rattle.std.specs.List.Sorted.{IsStrictlySortedBy}
+use Rattle.std.specs.List.Sorted.{IsSorted, IsStrictlySortedBy}
 use Rattle.mp_term.specs.Listing.{In}
 use Rattle.mp_term.specs.Tree.{Tree}
 use Rattle.mp_pattern.specs.PatternTree.{Pattern}
 use Rattle.mp_table.specs.Subterms.{arguments}
-use Rattle.mp_table.specs.Table.{Table, HasRanks, rank_cmp, term_at}
+use Rattle.mp_table.specs.Table.{Table, HasRank, HasRanks, rank_cmp, term_at, terms_at}
 use Rattle.mp_table.specs.declared.rank.Rank.{Rank}
 use Rattle.mp_theory.specs.Shape.{shape}
+use Rattle.mp_ac.specs.Args.{args_of}
 use Rattle.mp_ac.specs.Clash.{clash}
 use Rattle.mp_ac.specs.CommPlans.{child_at, IsLead}
 use Rattle.mp_ac.specs.declared.candidates.Candidates.{Candidates}
 use Rattle.mp_ac.specs.declared.candidates.Found.{Found}
 use Rattle.mp_ac.specs.declared.comm_plans.CommPlans.{CommPlans}
+use Rattle.mp_ac.specs.declared.node.Node.{Node}
 
 -- what the children take together below a node: its arguments, or it alone
 abbrev pub given_terms : Tree → Bool → List Tree
 given_terms t alone = if alone then t ∷ [] else arguments t
+
+-- the node is the table's, and what its children take together stands in order
+pub record IsNodeOf (t : Table) (n : Node) : Type 0 where
+  pub node : HasRank t n.node
+  pub ranks : HasRanks t (args_of n.args)
+  pub ascending : IsSorted rank_cmp (args_of n.args)
+  pub terms : terms_at t (args_of n.args) ≡ given_terms (term_at t n.node) n.alone
 
 -- the ranks ascend, their terms have the child's shape, and each of the terms that has it is among them
 pub record AreCandidates (t : Table) (p : Pattern) (us : List Tree) (rs : List Rank) : Type 0 where
@@ -46,6 +55,14 @@ pub record IsFound (t : Table) (P : List Tree → List Rank → Type 0) (rs : Li
   pub within : e.end ≤ length rs
   pub known : (node : Rank) → e.node ≡ Some node
       → P (given_terms (term_at t node) e.alone) (take (e.end - e.from) (drop e.from rs))
+
+-- r says which part of the ranks is kept under the number, and the node is the one that was asked there
+pub record IsKept (es : List Found) (number : ℕ) (n : Node) (r : ℕ × ℕ) : Type 0 where
+  pub entry : Found
+  pub held : slice_get es number ≡ Some entry
+  pub node : entry.node ≡ Some n.node
+  pub alone : entry.alone ≡ n.alone
+  pub part : r ≡ (entry.from, entry.end)
 
 -- so it is with each entry of children: they are the child's candidates
 abbrev pub AreEntries : Table → CommPlans → List Rank → List Found → Type 0

@@ -1,17 +1,15 @@
 //! How a search begins: the children that it goes through one by one, and the terms that these may take.
 ghost use Rattle.std.specs.Prelude.{◌≡◌, ◌≤◌, length, IfOk, MatchOption, OnOk, List};
-ghost use Rattle.mp_term.specs.Order.{tree_cmp};
 ghost use Rattle.mp_term.specs.Signature.{Sig};
 ghost use Rattle.mp_term.specs.Size.{all_nodes};
-ghost use Rattle.mp_term.specs.Sorting.{sorted};
 ghost use Rattle.mp_pattern.specs.PatternTree.{Pattern as plain_pattern};
 ghost use Rattle.mp_pattern.specs.Subpatterns.{subpatterns};
 ghost use Rattle.mp_pattern.specs.View.{pattern_tree};
-ghost use Rattle.mp_table.specs.Table.{HasRank, HasRanks, IsTable, term_at, terms_at};
+ghost use Rattle.mp_table.specs.Table.{HasRanks, IsTable, term_at, terms_at};
 ghost use Rattle.mp_search.specs.Grounds.{AreGrounds};
 ghost use Rattle.mp_ac.specs.Args as plain;
-ghost use Rattle.mp_ac.specs.Begin.{AreNone, AreParts, IsBlocked, IsNodeOf};
-ghost use Rattle.mp_ac.specs.Candidates.{given_terms};
+ghost use Rattle.mp_ac.specs.Begin.{AreNone, AreParts, IsBlocked};
+ghost use Rattle.mp_ac.specs.Candidates.{IsNodeOf, given_terms};
 ghost use Rattle.mp_ac.specs.CommPlan.{IsCommPlanOf, IsNumberedPattern, nodes_below};
 ghost use Rattle.mp_ac.specs.CommPlans.{AreLeads, IsPrepared};
 ghost use Rattle.mp_ac.specs.CommRoom.{IsOfTable, IsRoomFor};
@@ -19,60 +17,20 @@ ghost use Rattle.mp_ac.specs.Planned.{plan_of};
 ghost use Rattle.mp_ac.specs.Seek.{ArePicksOf};
 ghost use Rattle.mp_ac.specs.Store.{IsStoreOf};
 
-use crate::args::Args;
 use crate::comm_plan::CommPlan;
 use crate::comm_plans::{CommPlans, Prepared};
+use crate::node::Node;
 use crate::planned::Planned;
 use crate::room::CommRoom;
 use crate::store::CommStore;
 use mp_pattern::Pattern;
-use mp_table::{Rank, Table};
+use mp_table::Table;
 use mp_term::{Memory, Signature};
 use std::alloc::Global;
-
-// The node that a search is below: its rank, whether the children take it alone, and what they take together.
-#[derive(Clone, Copy)]
-pub(crate) struct Node<'a> {
-    pub(crate) node: Rank,
-    pub(crate) alone: bool,
-    pub(crate) args: Args<'a>,
-}
 
 // So many combinations of terms are gone through at most, child by child; where there may be more, a search looks
 // ahead, over all children.
 const FEW: usize = 256;
-
-// What the children take together: the arguments of the term, or the term alone.
-fn args_of(table: &Table, node: Rank, alone: bool) -> Args<'_>
-    requires { HasRank table.now node }
-    ensures terms { terms_at table.now (plain.args_of result) ≡ given_terms (term_at table.now node) alone }
-    ensures ranks { HasRanks table.now (plain.args_of result) }
-{
-    if alone {
-        Args::Alone(node)
-    } else {
-        Args::These(table.args(node))
-    }
-}
-
-impl<'a> Node<'a> {
-    // The node of the rank, where what its children take together stands in order.
-    pub(crate) fn new(table: &'a Table, node: Rank, alone: bool) -> Node<'a>
-        requires node { HasRank table.now node }
-        requires order { let ts = given_terms (term_at table.now node) alone in sorted tree_cmp ts ≡ ts }
-        ensures node { IsNodeOf table.now result }
-        ensures is { (result.node ≡ node) × (result.alone ≡ alone) }
-        ensures table { IsTable table.now }
-    {
-        // What holds of each table.
-        table.len();
-        Node {
-            node,
-            alone,
-            args: args_of(table, node, alone),
-        }
-    }
-}
 
 // How many combinations of their choices the leading children of these numbers may take, or more than few. It is 0
 // only where one of them has no choice.
@@ -93,14 +51,7 @@ fn ways(
 {
     let mut ways: usize = 1;
     for number in numbers {
-        let (from, end) = store.candidates.choices(
-            table,
-            plans,
-            node.node,
-            node.alone,
-            node.args.as_slice(),
-            *number,
-        )?;
+        let (from, end) = store.candidates.choices(table, plans, node, *number)?;
         ways = ways.saturating_mul(end - from);
         if ways == 0 || ways > FEW {
             return Ok(ways);
@@ -135,14 +86,7 @@ fn set_choices(
 {
     room.choices.clear();
     for (index, number) in numbers.iter().enumerate() {
-        let (from, end) = store.candidates.choices(
-            table,
-            plans,
-            node.node,
-            node.alone,
-            node.args.as_slice(),
-            *number,
-        )?;
+        let (from, end) = store.candidates.choices(table, plans, node, *number)?;
         let start = room.choices.len();
         room.choices
             .extend_from_slice(&store.candidates.ranks()[from..end])?;

@@ -1,6 +1,6 @@
 //! The terms that children may take, found once for all patterns that have the child.
 ghost use Rattle.std.specs.Prelude.{◌≡◌, ◌<◌, ◌≤◌, ◌-◌, ◌++◌, ℕ, List, take, drop, length, replicate, IfOk, OnOk};
-ghost use Rattle.std.specs.Prelude.{IsTrue, Option, Some, not, true, option_map, slice_get};
+ghost use Rattle.std.specs.Prelude.{IfSome, IsTrue, Option, Some, not, true};
 ghost use Rattle.std.specs.List.{AllByRecursion, list_any};
 ghost use Rattle.std.specs.List.Sorted.{IsSorted};
 ghost use Rattle.mp_pattern.specs.PatternTree as plain;
@@ -9,12 +9,14 @@ ghost use Rattle.mp_table.specs.Table as terms;
 ghost use Rattle.mp_table.specs.Table.{HasRank, HasRanks, IsTable, rank_cmp, term_at, terms_at};
 ghost use Rattle.mp_term.specs.Tree.{Tree};
 ghost use Rattle.mp_theory.specs.Shape.{shape};
-ghost use Rattle.mp_ac.specs.Candidates.{AreCandidates, AreChoices, AreFound, given_terms, is_same, unasked};
+ghost use Rattle.mp_ac.specs.Candidates.{AreCandidates, AreChoices, AreFound, IsKept, IsNodeOf};
+ghost use Rattle.mp_ac.specs.Candidates.{given_terms, is_same, unasked};
 ghost use Rattle.mp_ac.specs.Clash.{clash};
 ghost use Rattle.mp_ac.specs.CommPlans.{IsLead, child_at};
 
 use crate::clash::clash;
 use crate::comm_plans::{CommPlans, Lead};
+use crate::node::Node;
 use crate::syntactic::has_shape;
 use mp_pattern::Pattern;
 use mp_table::{Rank, Table};
@@ -31,10 +33,10 @@ pub(crate) struct Found {
     pub(crate) end: usize,
 }
 
-/// The terms that children may take below the nodes of a table, by ranks: for each child of patterns that are prepared
-/// together, and for each leading one with the next one, those of the node that was asked last.
+// The terms that children may take below the nodes of a table, by ranks: for each child of patterns that are prepared
+// together, and for each leading one with the next one, those of the node that was asked last.
 #[derive(Drop)]
-pub struct Candidates {
+pub(crate) struct Candidates {
     pub(crate) entries: Vec<Found>,
     pub(crate) leads: Vec<Found>,
     pub(crate) ranks: Vec<Rank>,
@@ -45,13 +47,25 @@ const KEPT: usize = 65536;
 
 impl Found {
     // It is what was found at the node.
-    fn is_of(&self, node: Rank, alone: bool) -> bool
-        ensures { IsTrue result → (self.now.node ≡ Some node) × (self.now.alone ≡ alone) }
+    fn is_of(&self, node: Node<'_>) -> bool
+        ensures { IsTrue result → (self.now.node ≡ Some node.entry.node) × (self.now.alone ≡ node.entry.alone) }
     {
         match self.node {
             None => false,
-            Some(own) => own.0 == node.0 && self.alone == alone,
+            Some(own) => own.0 == node.node.0 && self.alone == node.alone,
         }
+    }
+}
+
+// The part that is kept under the number, where it was found at the node.
+fn kept(list: &[Found], number: usize, node: Node<'_>) -> Option<(usize, usize)>
+    ensures { IfSome result (IsKept list.now number node.entry) }
+{
+    let entry = list.get(number)?;
+    if entry.is_of(node) {
+        Some((entry.from, entry.end))
+    } else {
+        None
     }
 }
 
@@ -156,8 +170,8 @@ fn push_choices(
 }
 
 impl Candidates {
-    /// Nothing is found yet. It takes no memory.
-    pub fn new(alloc: Global) -> Candidates
+    // Nothing is found yet. It takes no memory.
+    pub(crate) fn new(alloc: Global) -> Candidates
         ensures { (t : terms.Table) (plans : CommPlans) → AreFound t plans result }
     {
         Candidates {
@@ -167,7 +181,7 @@ impl Candidates {
         }
     }
 
-    /// The list of which what is found is a part.
+    // The list of which what is found is a part.
     pub(crate) fn ranks(&self) -> &[Rank]
         ensures { result.now ≡ self.now.ranks.items }
     {
@@ -185,99 +199,77 @@ impl Candidates {
         }
     }
 
-    // What is kept of the child of the number.
-    fn entry(&self, number: usize) -> Option<&Found>
-        ensures { option_map (λ e. e.now) result ≡ slice_get self.now.entries.items number }
-    {
-        self.entries.get(number)
-    }
-
     // Where the candidates of the child of the number stand among the ranks: they are of what the children of the node
-    // take together, which is given.
-    pub(crate) fn fill(
+    // take together.
+    fn fill(
         &mut self,
         table: &Table,
         plans: &CommPlans,
-        node: Rank,
-        alone: bool,
-        args: &[Rank],
+        node: Node<'_>,
         number: u32,
     ) -> Result<(usize, usize), Memory>
         requires found { AreFound table.now plans.now self.old }
-        requires rank { HasRank table.now node }
-        requires ranks { HasRanks table.now args.now }
-        requires ascending { IsSorted rank_cmp args.now }
-        requires args { terms_at table.now args.now ≡ given_terms (term_at table.now node) alone }
+        requires node { IsNodeOf table.now node }
         requires number { number < length plans.now.children.items }
         ensures part { IfOk result (λ r. (r.0 ≤ r.1) × (r.1 ≤ length self.new.ranks.items)) }
         ensures candidates { IfOk result (λ r. (p : plain.Pattern) → child_at plans.now number ≡ Some p
-            → AreCandidates table.now p (given_terms (term_at table.now node) alone)
+            → AreCandidates table.now p (given_terms (term_at table.now node.entry.node) node.entry.alone)
             (take (r.1 - r.0) (drop r.0 self.new.ranks.items))) }
         ensures more { OnOk result ((rs : List Rank) × (self.new.ranks.items ≡ self.old.ranks.items ++ rs)) }
         ensures found { OnOk result (AreFound table.now plans.now self.new) }
     {
         let number = number as usize;
-        if let Some(entry) = self.entry(number)
-            && entry.is_of(node, alone)
-        {
-            return Ok((entry.from, entry.end));
+        if let Some(part) = kept(&self.entries, number, node) {
+            return Ok(part);
         }
         make_room(&mut self.entries, plans.children.len())?;
         let from = self.ranks.len();
-        push_candidates(&mut self.ranks, table, &plans.children[number], args)?;
+        push_candidates(
+            &mut self.ranks,
+            table,
+            &plans.children[number],
+            node.args.as_slice(),
+        )?;
         let end = self.ranks.len();
         self.entries[number] = Found {
-            node: Some(node),
-            alone,
+            node: Some(node.node),
+            alone: node.alone,
             from,
             end,
         };
         Ok((from, end))
     }
 
-    // What is kept of the leading child of the number.
-    fn lead(&self, number: usize) -> Option<&Found>
-        ensures { option_map (λ e. e.now) result ≡ slice_get self.now.leads.items number }
-    {
-        self.leads.get(number)
-    }
-
     // Where the choices of the leading child of the number stand among the ranks: its candidates but for those that
-    // the next one bars. They are of what the children of the node take together, which is given.
+    // the next one bars. They are of what the children of the node take together.
     pub(crate) fn choices(
         &mut self,
         table: &Table,
         plans: &CommPlans,
-        node: Rank,
-        alone: bool,
-        args: &[Rank],
+        node: Node<'_>,
         number: u32,
     ) -> Result<(usize, usize), Memory>
         requires table { IsTable table.now }
         requires found { AreFound table.now plans.now self.old }
-        requires rank { HasRank table.now node }
-        requires ranks { HasRanks table.now args.now }
-        requires ascending { IsSorted rank_cmp args.now }
-        requires args { terms_at table.now args.now ≡ given_terms (term_at table.now node) alone }
+        requires node { IsNodeOf table.now node }
         requires number { (p : plain.Pattern) × (next : Option plain.Pattern) × IsLead plans.now number p next }
         ensures part { IfOk result (λ r. (r.0 ≤ r.1) × (r.1 ≤ length self.new.ranks.items)) }
         ensures choices { IfOk result (λ r. (p : plain.Pattern) (next : Option plain.Pattern)
-            → IsLead plans.now number p next → AreChoices table.now p next (given_terms (term_at table.now node) alone)
+            → IsLead plans.now number p next → AreChoices table.now p next
+            (given_terms (term_at table.now node.entry.node) node.entry.alone)
             (take (r.1 - r.0) (drop r.0 self.new.ranks.items))) }
         ensures found { OnOk result (AreFound table.now plans.now self.new) }
     {
         let place = number as usize;
-        if let Some(entry) = self.lead(place)
-            && entry.is_of(node, alone)
-        {
-            return Ok((entry.from, entry.end));
+        if let Some(part) = kept(&self.leads, place, node) {
+            return Ok(part);
         }
         let Lead { child, next } = plans.leads[place];
-        let own = self.fill(table, plans, node, alone, args, child)?;
+        let own = self.fill(table, plans, node, child)?;
         let Some(next) = next else {
             return Ok(own);
         };
-        let its = self.fill(table, plans, node, alone, args, next)?;
+        let its = self.fill(table, plans, node, next)?;
         make_room(&mut self.leads, plans.leads.len())?;
         let from = self.ranks.len();
         let (child, next) = (child as usize, next as usize);
@@ -291,8 +283,8 @@ impl Candidates {
         )?;
         let end = self.ranks.len();
         self.leads[place] = Found {
-            node: Some(node),
-            alone,
+            node: Some(node.node),
+            alone: node.alone,
             from,
             end,
         };

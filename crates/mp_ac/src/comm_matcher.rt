@@ -105,15 +105,6 @@ fn nodes_of(table: &Table, ranks: &[Rank]) -> usize
     nodes as usize
 }
 
-// A copy of the ranks.
-fn copy_ranks(alloc: Global, ranks: &[Rank]) -> Result<Vec<Rank>, Memory>
-    ensures { IfOk result (λ rs. rs.items ≡ ranks.now) }
-{
-    let mut copy = Vec::with_capacity(alloc, ranks.len())?;
-    copy.extend_from_slice(ranks)?;
-    Ok(copy)
-}
-
 impl<'a> CommMatcher<'a> {
     /// The matcher before its first item. Its list is `comm_list` of `specs/CommList.antt`: exactly the tables of
     /// entries below the node for which its children take the arguments with values of the variables below it that
@@ -180,7 +171,7 @@ impl<'a> CommMatcher<'a> {
             node,
             plan: own,
             vars: numbers,
-            args: copy_ranks(alloc, args)?,
+            args: Vec::from_slice(alloc, args)?,
             room,
             trail: trail.copy(alloc)?,
             mark: trail.mark(),
@@ -224,8 +215,9 @@ impl<'a> CommMatcher<'a> {
         Ok(found)
     }
 
-    /// What the node of that number of the plan takes in the item's table, and whether it is collapsed. It is None
-    /// exactly where no node below the matcher's has the number. It takes no memory.
+    /// Where the matcher stands at an item, what the node of that number of the plan takes in the item's table, and
+    /// whether it is collapsed; elsewhere nothing is said of these. It is None exactly where no node below the
+    /// matcher's has the number. It takes no memory.
     pub fn entry(&self, node: u32) -> Option<(&[Rank], bool)>
         requires { IsMatcher self.now }
         ensures entry { option_map (λ e. record { terms = terms_at self.now.table.now e.0.now; collapsed = e.1 }) result

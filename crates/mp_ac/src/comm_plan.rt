@@ -14,10 +14,10 @@ use mp_pattern::{MAX_VARIABLES, Pattern, Plan, PlanFault};
 use mp_term::{Memory, Name, Signature};
 use std::alloc::Global;
 
-/// A pattern of a commutative operation, prepared once for all searches below it: its plan, and the number of each of
-/// its variables in a trail. The variables are named by these numbers (`IsCommPlanOf` of `specs/CommPlan.antt`).
+// A pattern of a commutative operation, prepared once for all searches below it: its plan, and the number of each of
+// its variables in a trail. The variables are named by these numbers (`IsCommPlanOf` of `specs/CommPlan.antt`).
 #[derive(Drop)]
-pub struct CommPlan {
+pub(crate) struct CommPlan {
     pub(crate) plan: Plan,
     pub(crate) vars: Vec<u32>,
 }
@@ -64,10 +64,10 @@ pub(crate) fn plan_of(alloc: Global, sig: &Signature, pattern: &Pattern) -> Resu
 }
 
 impl CommPlan {
-    /// The pattern, prepared: an application whose variables are named `v` and a number below `MAX_VARIABLES` in
-    /// decimal, which is their number in the trail, and that has a plan. `Memory` comes where there is no memory for
-    /// it.
-    pub fn new(alloc: Global, sig: &Signature, pattern: &Pattern) -> Result<CommPlan, Memory>
+    // The pattern, prepared: an application whose variables are named `v` and a number below `MAX_VARIABLES` in
+    // decimal, which is their number in the trail, and that has a plan. `Memory` comes where there is no memory for
+    // it.
+    pub(crate) fn new(alloc: Global, sig: &Signature, pattern: &Pattern) -> Result<CommPlan, Memory>
         requires { IsNumberedPattern (pattern_tree pattern.now) }
         ensures { IfOk result (IsCommPlanOf sig.now (pattern_tree pattern.now)) }
     {
@@ -96,8 +96,8 @@ impl CommPlan {
         }
     }
 
-    /// How many nodes there are below the pattern's root.
-    pub fn nodes(&self) -> u32
+    // How many nodes there are below the pattern's root.
+    pub(crate) fn nodes(&self) -> u32
         requires { (sig : Sig) × IsCommPlanOf sig self.now.plan.pattern self.now }
         ensures { result ≡ nodes_below self.now.plan.pattern }
     {

@@ -226,8 +226,8 @@ impl CommPlans {
         }
     }
 
-    /// The child of the number, from 0. It is None exactly where there is none.
-    pub fn child(&self, number: u32) -> Option<&Pattern>
+    // The child of the number, from 0.
+    fn child(&self, number: u32) -> Option<&Pattern>
         ensures { option_map (λ p. pattern_tree p.now) result ≡ child_at self.now number }
     {
         self.children.get(number as usize)
@@ -415,15 +415,15 @@ impl CommPlans {
         Ok(())
     }
 
-    /// The plan of the children behind the leading ones.
-    pub fn tail(&self, prepared: Prepared) -> Option<&CommPlan>
+    // The plan of the children behind the leading ones.
+    pub(crate) fn tail(&self, prepared: Prepared) -> Option<&CommPlan>
         ensures { option_map (λ c. c.now) result ≡ slice_get self.now.tails.items prepared.tail }
     {
         self.tails.get(prepared.tail)
     }
 
-    /// The numbers of the leading children, each with the next one (`IsLead` of `specs/CommPlans.antt`).
-    pub fn numbers_of(&self, prepared: Prepared) -> &[u32]
+    // The numbers of the leading children, each with the next one (`IsLead` of `specs/CommPlans.antt`).
+    pub(crate) fn numbers_of(&self, prepared: Prepared) -> &[u32]
         requires { (sig : Sig) × (p : plain.Pattern) × IsPrepared sig self.now p prepared }
         ensures { result.now ≡ take prepared.count (drop prepared.from self.now.numbers.items) }
     {

@@ -10,7 +10,9 @@ mod comm_matcher;
 mod comm_plan;
 mod comm_plans;
 mod digest;
+mod laws;
 mod look;
+mod node;
 mod pick;
 mod planned;
 mod room;
@@ -23,7 +25,7 @@ mod subpattern;
 mod syntactic;
 
 pub use comm_matcher::CommMatcher;
-pub use comm_plan::CommPlan;
 pub use comm_plans::{CommPlans, Prepared};
+pub use laws::a_commutative_node_has_the_items_of_its_list;
 pub use search::CommSearch;
 pub use store::CommStore;

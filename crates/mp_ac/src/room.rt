@@ -10,10 +10,10 @@ use mp_table::Rank;
 use mp_term::Memory;
 use std::alloc::Global;
 
-/// All the memory that a search below a node needs, but for what its children may take. It may be used again and again,
-/// for whatever patterns have no more nodes, over one table (`IsRoomFor` of `specs/CommRoom.antt`).
+// All the memory that a search below a node needs, but for what its children may take. It may be used again and again,
+// for whatever patterns have no more nodes, over one table (`IsRoomFor` of `specs/CommRoom.antt`).
 #[derive(Drop)]
-pub struct CommRoom {
+pub(crate) struct CommRoom {
     // How many ranks each pick and each level has room for.
     pub(crate) width: usize,
     pub(crate) choices: Vec<Rank>,
@@ -35,9 +35,14 @@ fn vacant_picks(alloc: Global, count: usize, width: usize) -> Result<Vec<Pick>, 
 }
 
 impl CommRoom {
-    /// Room for so many children that take one term each, for so many nodes below a root beside them, and for arguments
-    /// of so many nodes together. `Memory` comes where there is no memory for it.
-    pub fn new(alloc: Global, children: usize, nodes: u32, width: usize) -> Result<CommRoom, Memory>
+    // Room for so many children that take one term each, for so many nodes below a root beside them, and for arguments
+    // of so many nodes together. `Memory` comes where there is no memory for it.
+    pub(crate) fn new(
+        alloc: Global,
+        children: usize,
+        nodes: u32,
+        width: usize,
+    ) -> Result<CommRoom, Memory>
         ensures { (t : Table) → IfOk result (IsRoomFor t children nodes width) }
     {
         Ok(CommRoom {
@@ -49,9 +54,9 @@ impl CommRoom {
         })
     }
 
-    /// Whether there is room for so many children and nodes and so many ranks at each, of a room whose ranks are the
-    /// table's.
-    pub fn is_for(&self, children: usize, nodes: u32, width: usize) -> bool
+    // Whether there is room for so many children and nodes and so many ranks at each, of a room whose ranks are the
+    // table's.
+    pub(crate) fn is_for(&self, children: usize, nodes: u32, width: usize) -> bool
         ensures { IsTrue result → (t : Table) → IsOfTable t self.now → IsRoomFor t children nodes width self.now }
     {
         let nodes = nodes as usize;

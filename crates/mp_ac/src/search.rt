@@ -22,8 +22,9 @@ ghost use Rattle.mp_ac.specs.declared.comm_plans.CommPlans.{CommPlans as plain_p
 
 use crate::args::Args;
 use crate::asked::Asked;
-use crate::begin::{Node, parts, room_for};
+use crate::begin::{parts, room_for};
 use crate::comm_plans::{CommPlans, Prepared};
+use crate::node::Node;
 use crate::pick::entry_picked;
 use crate::planned::Planned;
 use crate::room::CommRoom;
@@ -55,7 +56,8 @@ pub struct CommSearch<'a> {
 
 impl<'a> CommSearch<'a> {
     /// The search before its first item. Its list is `comm_list` of `specs/CommList.antt` over the trail's
-    /// substitution, in which each variable is named by its number. None says that the list is seen to be empty.
+    /// substitution, in which each variable is named by its number: what it has, the law
+    /// `a_commutative_node_has_the_items_of_its_list` says. None says that the list is seen to be empty.
     ///
     /// The pattern is an application of a commutative operation, prepared among the plans. The node is a term of the
     /// table, whose terms are normal over the signature, and which holds the pattern's symbols and defaults. The

@@ -1,34 +1,30 @@
 use Rattle.std.proofs.Common.{◌≡◌, ◌-◌, take, drop, refl, ap, sym, subst, ◌∙◌, arith}
-use Rattle.std.specs.Prelude.{None, Some, option_and_then, option_map, slice_get, slice_set}
+use Rattle.std.specs.Prelude.{None, Some, option_and_then, option_map, slice_set}
 use Rattle.mp_term.proofs.ListLaws.{all-append}
 use Rattle.mp_pattern.specs.View.{pattern_tree}
 use Rattle.mp_table.specs.Table.{HasRank, HasRanks, term_at}
-use Rattle.mp_ac.specs.Candidates.{AreChoices, given_terms}
+use Rattle.mp_ac.specs.Candidates.{AreChoices, IsKept, given_terms}
 use Rattle.mp_ac.specs.CommPlans.{child_at}
 use Rattle.mp_ac.specs.declared.candidates.Found.{Found}
 use Rattle.mp_ac.proofs.CandidateLaws.{candidates-choices, candidates-kept, child-within, entries-kept, found-new}
 use Rattle.mp_ac.proofs.CandidateLaws.{index-found, lead-read, lead-within, leads-filled, leads-kept, next-within}
-use Rattle.mp_ac.proofs.CandidateLaws.{part-behind}
+use Rattle.mp_ac.proofs.CandidateLaws.{found-part, part-behind}
 use Rattle.mp_ac.proofs.candidates.Candidates.choices.Goals as goal
 
-pub returns-clause-part : goal.returns-clause-part
-returns-clause-part c =
-    let e = c.in-Some.entry.now in
-    let there : slice_get c.args.self.now.leads.items c.args.number ≡ Some e =
-    sym c.lead.ensures ∙ ap (option_map (λ x. x.now)) c.in-Some.is in
-    let number = c.requires.number in
-    let found = c.requires.found.leads c.args.number e number.0 number.1 there number.2 in
-    (found.onward, found.within)
+pub returns-in-Some-clause-part : goal.returns-in-Some-clause-part
+returns-in-Some-clause-part c =
+    let k = subst (λ es. IsKept es c.args.number c.args.node c.in-Some.part) c.deref.ensures.value c.in-Some.ensures in
+    let lead = c.requires.number in
+    (found-part c.args.table.now (AreChoices c.args.table.now lead.0 lead.1) c.args.self.now.ranks.items
+    c.args.self.now.leads.items c.args.number c.args.node c.in-Some.part k
+    (c.requires.found.leads c.args.number k.entry lead.0 lead.1 k.held lead.2)).0
 
-pub returns-clause-choices : goal.returns-clause-choices
-returns-clause-choices c = λ p next lead.
-    let e = c.in-Some.entry.now in
-    let there : slice_get c.args.self.now.leads.items c.args.number ≡ Some e =
-    sym c.lead.ensures ∙ ap (option_map (λ x. x.now)) c.in-Some.is in
-    let asked = c.is_of.ensures c.if-is_of.true in
-    subst (λ b. AreChoices c.args.table.now p next (given_terms (term_at c.args.table.now c.args.node) b)
-    (take (e.end - e.from) (drop e.from c.args.self.now.ranks.items))) asked.1
-    ((c.requires.found.leads c.args.number e p next there lead).known c.args.node asked.0)
+pub returns-in-Some-clause-choices : goal.returns-in-Some-clause-choices
+returns-in-Some-clause-choices c = λ p next lead.
+    let k = subst (λ es. IsKept es c.args.number c.args.node c.in-Some.part) c.deref.ensures.value c.in-Some.ensures in
+    (found-part c.args.table.now (AreChoices c.args.table.now p next) c.args.self.now.ranks.items
+    c.args.self.now.leads.items c.args.number c.args.node c.in-Some.part k
+    (c.requires.found.leads c.args.number k.entry p next k.held lead)).1
 
 pub index-requires : goal.index-requires
 index-requires c =
@@ -46,16 +42,16 @@ fill-requires-clause-number c =
     let known = lead-read plans c.args.number number.0 number.1 c.index.result.now number.2 c.index.ensures in
     child-within plans c.index.result.now.child number.0 known.0
 
-pub returns-in_default-clause-choices : goal.returns-in_default-clause-choices
-returns-in_default-clause-choices c = λ p next lead.
+pub returns-in_default-next-clause-choices : goal.returns-in_default-next-clause-choices
+returns-in_default-next-clause-choices c = λ p next lead.
     let t = c.args.table.now in
     let plans = c.args.plans.now in
-    let us = given_terms (term_at t c.args.node) c.args.alone in
+    let us = given_terms (term_at t c.args.node.node) c.args.node.alone in
     let l = c.index.result.now in
     let own = c.in_ok-own.own in
     let part = take (own.1 - own.0) (drop own.0 c.fill.new.self.ranks.items) in
     let known = lead-read plans c.args.number p next l lead c.index.ensures in
-    let none : next ≡ None = known.1 ∙ ap (option_and_then (child_at plans)) c.in_default-2.is in
+    let none : next ≡ None = known.1 ∙ ap (option_and_then (child_at plans)) c.in_default-next.is in
     subst (λ q. AreChoices t p q us part) (sym none)
     (candidates-choices t p us part (c.in_ok-own.ensures.candidates p known.0))
 
@@ -92,7 +88,7 @@ pub push_choices-requires-clause-shaped : goal.push_choices-requires-clause-shap
 push_choices-requires-clause-shaped c =
     let t = c.args.table.now in
     let plans = c.args.plans.now in
-    let us = given_terms (term_at t c.args.node) c.args.alone in
+    let us = given_terms (term_at t c.args.node.node) c.args.node.alone in
     let own = c.in_ok-own.own in
     let number = c.requires.number in
     let l = c.index.result.now in
@@ -127,11 +123,11 @@ index_mut-requires c =
       c.make_room.new.entries.ok.0,
     )
 
-pub returns-2-clause-choices : goal.returns-2-clause-choices
-returns-2-clause-choices c = λ p next lead.
+pub returns-clause-choices : goal.returns-clause-choices
+returns-clause-choices c = λ p next lead.
     let t = c.args.table.now in
     let plans = c.args.plans.now in
-    let us = given_terms (term_at t c.args.node) c.args.alone in
+    let us = given_terms (term_at t c.args.node.node) c.args.node.alone in
     let own = c.in_ok-own.own in
     let l = c.index.result.now in
     let m = c.in-Some-next.next in
@@ -156,11 +152,11 @@ returns-2-clause-choices c = λ p next lead.
     (subst (λ q. AreChoices t p q us pushed.0) (sym next-is)
     (subst (λ q. AreChoices t q (Some y) us pushed.0) same choices))
 
-pub returns-2-clause-found : goal.returns-2-clause-found
-returns-2-clause-found c =
+pub returns-clause-found : goal.returns-clause-found
+returns-clause-found c =
     let t = c.args.table.now in
     let plans = c.args.plans.now in
-    let us = given_terms (term_at t c.args.node) c.args.alone in
+    let us = given_terms (term_at t c.args.node.node) c.args.node.alone in
     let own = c.in_ok-own.own in
     let number = c.requires.number in
     let l = c.index.result.now in
@@ -182,8 +178,8 @@ returns-2-clause-found c =
     let found = c.in_ok-its.ensures.found in
     let room = c.in_ok-make_room.ensures in
     let e : Found = record {
-      node = Some c.args.node;
-      alone = c.args.alone;
+      node = Some c.args.node.node;
+      alone = c.args.node.alone;
       from = c.len-from.result;
       end = c.len-end.result;
     } in
@@ -199,7 +195,7 @@ returns-2-clause-found c =
           let same : x ≡ p = (let k : Some x ≡ Some p = sym child ∙ read.0 in cc) in
           let next-is : next ≡ Some y =
           read.1 ∙ ap (option_and_then (child_at plans)) c.in-Some-next.is ∙ behind in
-          found-new t (AreChoices t p next) rs pushed.0 all e c.args.node pushed.1 refl
+          found-new t (AreChoices t p next) rs pushed.0 all e c.args.node.node pushed.1 refl
           (c.len-from.ensures ∙ c.fill-2.new.self.ranks.ok.0) (c.len-end.ensures ∙ c.push_choices.new.ranks.ok.0)
           (subst (λ q. AreChoices t p q us pushed.0) (sym next-is)
           (subst (λ q. AreChoices t q (Some y) us pushed.0) same choices)));

@@ -47,7 +47,7 @@ returns-clause-matcher c =
     let k = plan-nodes_below c.args.sig.now q c.in_ok-own.own p
     (record { op = n.op; children = n.children; is = refl }) in
     let r = c.in_ok-room.ensures t in
-    let a = sym c.in_ok-copy_ranks.ensures in
+    let a = sym c.in_ok-from_slice.ensures.items in
     let f = λ (y : Variable). number_among c.args.vars.now c.args.plan.now.variables y.name in
     laws.standing _ c.args.plan.now c.args.vars.now c.args.node n.op n.children c.args.trail.now
     (subst (IsPlanOf c.args.sig.now q) (sym c.own.view_is) p) c.requires.plan n.is
@@ -77,7 +77,7 @@ made c w = record {
   node = c.args.node;
   plan = w;
   vars = c.in_ok-numbers.numbers;
-  args = c.in_ok-copy_ranks.field-0;
+  args = c.in_ok-from_slice.field-0;
   room = record {
     width = c.in_ok-room.room.width;
     choices = c.in_ok-room.room.choices;
@@ -102,7 +102,7 @@ returns-clause-list c g ps e =
     (laws.listed (made c c.in_ok-own.own) c.args.plan.now c.args.vars.now c.args.node g ps c.args.trail.now
     (c.in_ok-own.ensures g ps e) c.requires.plan e c.in_ok-numbers.ensures c.mark.ensures c.in_ok-copy.ensures refl
     ∙ ap (λ rs. comm_list c.args.sig.now g ps (terms_at c.args.table.now rs) false
-    (read_trail (made c c.in_ok-own.own) c.args.trail.now)) c.in_ok-copy_ranks.ensures)
+    (read_trail (made c c.in_ok-own.own) c.args.trail.now)) c.in_ok-from_slice.ensures.items)
 
 pub returns-clause-items : goal.returns-clause-items
 returns-clause-items c g ps e =
@@ -111,8 +111,8 @@ returns-clause-items c g ps e =
     subst (λ w. AreCommItems c.args.sig.now g ps (terms_at t c.args.args.now) false
     (read_trail (made c w) c.args.trail.now) (to_come (made c w))) (sym c.own.view_is)
     (subst (λ rs. AreCommItems c.args.sig.now g ps (terms_at t rs) false (read_trail m c.args.trail.now) (to_come m))
-    c.in_ok-copy_ranks.ensures
+    c.in_ok-from_slice.ensures.items
     (laws.items m c.args.plan.now c.args.vars.now c.args.node g ps c.args.trail.now (c.in_ok-own.ensures g ps e)
     c.requires.plan e c.in_ok-numbers.ensures c.mark.ensures c.in_ok-copy.ensures refl
-    (subst (λ rs. AreArguments c.args.sig.now g (terms_at t rs)) (sym c.in_ok-copy_ranks.ensures)
+    (subst (λ rs. AreArguments c.args.sig.now g (terms_at t rs)) (sym c.in_ok-from_slice.ensures.items)
     (c.requires.arguments g ps e)) c.requires.values))

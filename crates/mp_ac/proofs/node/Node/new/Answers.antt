@@ -3,7 +3,7 @@ use Rattle.mp_term.specs.Order.{tree_cmp}
 use Rattle.mp_term.specs.Sorting.{sorted}
 use Rattle.mp_ac.specs.Args as plain
 use Rattle.mp_ac.proofs.BeginSearch.{ranks-ascend}
-use Rattle.mp_ac.proofs.begin.Node.new.Goals as goal
+use Rattle.mp_ac.proofs.node.Node.new.Goals as goal
 
 pub returns-clause-node : goal.returns-clause-node
 returns-clause-node c = record {
