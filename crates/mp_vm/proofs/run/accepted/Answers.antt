@@ -1,5 +1,6 @@
 use Rattle.std.proofs.Common.{◌∙◌, ap, sym, subst}
 use Rattle.std.specs.Prelude.{IfSome}
+use Rattle.mp_walk.specs.CodeConstants.{IsCodeTable}
 use Rattle.mp_walk.specs.Ranked.{pairs_of, AreOver}
 use Rattle.mp_walk.specs.WalkItems.{IsLeafItem, AreLeafItems}
 use Rattle.mp_table.specs.Table.{subject_of}
@@ -8,6 +9,10 @@ use Rattle.mp_program.specs.ProgramView.{program_view}
 use Rattle.mp_vm.proofs.RunLaws.{HasFound, added-over, found-first, found-last, found-next, leaf-accepts}
 use Rattle.mp_vm.proofs.RunLaws.{listing-program, none-left, shorter}
 use Rattle.mp_vm.proofs.run.accepted.Goals as goal
+
+pub begin-requires-clause-table : goal.begin-requires-clause-table
+begin-requires-clause-table c =
+    subst (λ code. IsCodeTable c.args.sig.now code c.args.table.now) (sym c.requires.code) c.requires.table
 
 pub add_pairs-requires-clause-item : goal.add_pairs-requires-clause-item
 add_pairs-requires-clause-item c =
