@@ -11,9 +11,10 @@ use mp_line::{
 };
 use mp_many::Many;
 use mp_pattern::{Cond, Conds};
+use mp_print::TextSink;
 use mp_program::{
-    Format, Program, ProgramError, RuleLine, RuleTest, TextSink, numbered_name, renamed_cond,
-    rules_of, write_program,
+    Format, Program, ProgramError, RuleLine, RuleTest, numbered_name, renamed_cond, rules_of,
+    write_program,
 };
 use mp_term::{Memory, Names, Signature};
 use mp_walk::Instrs;

@@ -5,15 +5,13 @@ ghost use Rattle.mp_term.specs.View.{tree};
 ghost use Rattle.mp_pattern.specs.View.{pattern_tree};
 ghost use Rattle.mp_pattern.specs.CondView.{cond_tree};
 ghost use Rattle.mp_print.specs.Printing.{term_text};
-ghost use Rattle.mp_print.specs.PrintedPattern.{pattern_text};
-ghost use Rattle.mp_print.specs.PrintedCond.{cond_text};
 ghost use Rattle.mp_line.specs.Finds.{Finds};
 ghost use Rattle.mp_line.specs.LineTexts.{IsExactTerm, IsExactPattern, IsExactCond};
 
+use crate::words::is_same;
 use mp_build::if_faultless;
 use mp_pattern::{Cond, Pattern};
-use mp_print::{write_pattern, write_term};
-use mp_program::{TextSink, printed_cond};
+use mp_print::{printed_cond, printed_pattern, printed_term};
 use mp_term::{Memory, Signature, Term};
 use mp_text::{read_loose_cond, read_pattern, read_term};
 use std::alloc::Global;
@@ -26,11 +24,8 @@ fn is_term_text(alloc: Global, sig: &Signature, term: &Term, text: &[u8]) -> Res
     if let Term::Sym(name) = term {
         return Ok(name.bytes() == text);
     }
-    let mut sink = TextSink::new(alloc);
-    match write_term(sig, term, &mut sink) {
-        Ok(()) => Ok(sink.content() == text),
-        Err(_) => Err(Memory),
-    }
+    let printed = printed_term(alloc, sig, term)?;
+    Ok(printed.content() == text)
 }
 
 // The term that is read of the text, where that is its printed text.
@@ -49,23 +44,6 @@ pub(crate) fn exact_term(
     if is_same { Ok(Some(term)) } else { Ok(None) }
 }
 
-// The text is the printed text of the pattern.
-fn is_pattern_text(
-    alloc: Global,
-    sig: &Signature,
-    pattern: &Pattern,
-    text: &[u8],
-) -> Result<bool, Memory>
-    ensures { IfOk result (λ same. MatchBool same (pattern_text sig.now (pattern_tree pattern.now) ≡ text.now)
-        (pattern_text sig.now (pattern_tree pattern.now) ≢ text.now)) }
-{
-    let mut sink = TextSink::new(alloc);
-    match write_pattern(sig, pattern, &mut sink) {
-        Ok(()) => Ok(sink.content() == text),
-        Err(_) => Err(Memory),
-    }
-}
-
 // The pattern that is read of the text, where that is its printed text.
 pub(crate) fn exact_pattern(
     alloc: Global,
@@ -78,17 +56,12 @@ pub(crate) fn exact_pattern(
     let Some(pattern) = if_faultless(read_pattern(alloc, sig, text))? else {
         return Ok(None);
     };
-    let is_same = is_pattern_text(alloc, sig, &pattern, text)?;
-    if is_same { Ok(Some(pattern)) } else { Ok(None) }
-}
-
-// The text is the printed text of the condition.
-fn is_cond_text(alloc: Global, sig: &Signature, cond: &Cond, text: &[u8]) -> Result<bool, Memory>
-    ensures { IfOk result (λ same. MatchBool same (cond_text sig.now (cond_tree cond.now) ≡ text.now)
-        (cond_text sig.now (cond_tree cond.now) ≢ text.now)) }
-{
-    let printed = printed_cond(alloc, sig, cond)?;
-    Ok(printed.content() == text)
+    let printed = printed_pattern(alloc, sig, &pattern)?;
+    if is_same(printed.content(), text) {
+        Ok(Some(pattern))
+    } else {
+        Ok(None)
+    }
 }
 
 // The condition that is read of the text, where that is its printed text.
@@ -103,6 +76,10 @@ pub(crate) fn exact_cond(
     let Some(cond) = if_faultless(read_loose_cond(alloc, sig, text))? else {
         return Ok(None);
     };
-    let is_same = is_cond_text(alloc, sig, &cond, text)?;
-    if is_same { Ok(Some(cond)) } else { Ok(None) }
+    let printed = printed_cond(alloc, sig, &cond)?;
+    if is_same(printed.content(), text) {
+        Ok(Some(cond))
+    } else {
+        Ok(None)
+    }
 }

@@ -10,7 +10,6 @@ mod printer;
 mod program;
 mod renamed;
 mod rule_line;
-mod text_sink;
 
 pub use fault::ProgramError;
 pub use format::Format;
@@ -20,4 +19,3 @@ pub use printer::write_program;
 pub use program::{Program, ProgramRule, ProgramRules};
 pub use renamed::{numbered_name, renamed_cond};
 pub use rule_line::{RuleLine, RuleTest};
-pub use text_sink::{TextSink, printed_cond};

@@ -12,8 +12,8 @@ ghost use Rattle.mp_program.specs.RuleView.{rule_test, rule_line_view};
 use crate::program::{ProgramRule, ProgramRules};
 use crate::renamed::renamed_cond;
 use crate::rule_line::{RuleLine, RuleTest};
-use crate::text_sink::printed_cond;
 use mp_pattern::{Cond, Conds};
+use mp_print::printed_cond;
 use mp_term::{Memory, NameTable, Names, Signature};
 use std::alloc::Global;
 

@@ -9,8 +9,7 @@ ghost use Rattle.mp_pattern.specs.CondView.{cond_tree};
 ghost use Rattle.mp_pattern.specs.NetTokenView.{net_token};
 ghost use Rattle.mp_term.specs.Signature.{Sig};
 ghost use Rattle.mp_walk.specs.InstrView.{plain_instr};
-ghost use Rattle.mp_print.specs.Printing.{text_if, kind_name_text};
-ghost use Rattle.mp_print.specs.PrintedCond.{op_name_text};
+ghost use Rattle.mp_print.specs.Printing.{text_if};
 ghost use Rattle.mp_program.specs.ProgramView.{rule_view, program_view};
 ghost use Rattle.mp_program.specs.RightForm.{IsShort};
 ghost use Rattle.mp_program.specs.FormText.{lines_text, variable_text, target_text, token_text, action_text};
@@ -22,8 +21,8 @@ ghost use Rattle.mp_program.specs.FormText.{line_of_rule, first_target, program_
 use crate::program::{Program, ProgramRule};
 use mp_io::{Failed, Sink, Writer, put_number};
 use mp_pattern::{Cond, NetToken};
-use mp_print::{put_cond, put_pattern, put_signature, put_term};
-use mp_term::{KindId, Names, OpId, Signature};
+use mp_print::{kind_name, op_name, put_cond, put_pattern, put_signature, put_term};
+use mp_term::{Names, Signature};
 use mp_walk::Instr;
 
 /// Appends the text of a program to the sink, in format 2: `program_text` of `specs/FormText.antt`, with the
@@ -262,25 +261,5 @@ fn put_target<K: Sink>(target: Option<u32>, out: &mut Writer<'_, K>)
     match target {
         Some(number) => put_number(number, out),
         None => out.put(b"-"),
-    }
-}
-
-// The name of an operation, and nothing where none is held.
-fn op_name(sig: &Signature, op: OpId) -> &[u8]
-    ensures { result.now ≡ op_name_text sig.now op.0 }
-{
-    match sig.op(op) {
-        Some(decl) => decl.name.bytes(),
-        None => b"",
-    }
-}
-
-// The name of a kind, and nothing where none is held.
-fn kind_name(sig: &Signature, kind: KindId) -> &[u8]
-    ensures { result.now ≡ kind_name_text sig.now kind.0 }
-{
-    match sig.kind_name(kind) {
-        Some(name) => name.bytes(),
-        None => b"",
     }
 }

@@ -1,6 +1,6 @@
 //! The declarations of a program text against those of a signature.
 
-ghost use Rattle.std.specs.Prelude.{◌≡◌, ◌<◌, ◌-◌, ◌^◌, length, option_map, option_to_list, IfOk};
+ghost use Rattle.std.specs.Prelude.{◌≡◌, ◌<◌, ◌-◌, ◌^◌, length, option_map, option_to_list};
 ghost use Rattle.mp_print.specs.PrintedSignature.{signature_text};
 ghost use Rattle.mp_program.specs.declared.fault.ProgramError.TheVariants as errors;
 ghost use Rattle.mp_program.specs.FormFaults.{declaration_faults};
@@ -8,8 +8,8 @@ ghost use Rattle.mp_program.specs.FormText.{lines_of};
 ghost use Rattle.mp_vm.specs.Checked.{Checks};
 
 use crate::lines::Lines;
-use mp_print::write_signature;
-use mp_program::{ProgramError, TextSink};
+use mp_print::printed_signature;
+use mp_program::ProgramError;
 use mp_term::{Memory, Signature};
 use std::alloc::Global;
 
@@ -35,17 +35,6 @@ fn first_difference(expected: &[u8], found: &[u8]) -> Option<u32>
         None
     } else {
         Some(line)
-    }
-}
-
-// The printed text of the declarations of a signature.
-fn printed_signature(alloc: Global, sig: &Signature) -> Result<TextSink, Memory>
-    ensures { IfOk result (λ s. s.bytes.items ≡ signature_text sig.now) }
-{
-    let mut sink = TextSink::new(alloc);
-    match write_signature(sig, &mut sink) {
-        Ok(()) => Ok(sink),
-        Err(_) => Err(Memory),
     }
 }
 

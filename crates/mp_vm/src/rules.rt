@@ -23,7 +23,8 @@ ghost use Rattle.mp_vm.specs.NumberedRules.{named_test, numbered_rule};
 use indexmap::IndexSet;
 use mp_line::{MAX_KEPT, condition_names};
 use mp_pattern::{Cond, MAX_VARIABLES};
-use mp_program::{ProgramError, ProgramRule, ProgramRules, RuleLine, RuleTest, printed_cond};
+use mp_print::printed_cond;
+use mp_program::{ProgramError, ProgramRule, ProgramRules, RuleLine, RuleTest};
 use mp_term::{Memory, Name, NameTable, Names, Signature};
 use std::alloc::Global;
 

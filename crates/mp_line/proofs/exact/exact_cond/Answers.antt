@@ -1,4 +1,4 @@
-use Rattle.std.proofs.lemmas.Bool.{MatchBool-at_true, MatchBool-at_false}
+use Rattle.std.proofs.Common.{sym, ◌∙◌, true≢false}
 use Rattle.std.specs.Prelude.{None}
 use Rattle.mp_pattern.specs.CondView.{cond_tree}
 use Rattle.mp_print.specs.PrintedCond.{cond_text}
@@ -10,16 +10,19 @@ pub returns-then-is_same : goal.returns-then-is_same
 returns-then-is_same c =
     let sig = c.args.sig.now in
     let made = rw c.in-Some.is at c.in_ok-cond.ensures.value in
+    let shown = c.content.ensures ∙ c.in_ok-printed.ensures in
     exact-only (IsCondOf sig None) (cond_text sig) c.args.text.now
     (cond_tree c.in-Some.cond) (rw made at c.read_loose_cond.ensures.only) (rw made at c.read_loose_cond.ensures.found)
-    (MatchBool-at_true _ _ c.if-is_same.true c.in_ok-is_same.ensures)
+    (sym shown ∙ c.is_same.ensures.0 c.if-is_same.true)
 
 pub returns-else-is_same : goal.returns-else-is_same
 returns-else-is_same c =
     let sig = c.args.sig.now in
     let made = rw c.in-Some.is at c.in_ok-cond.ensures.value in
+    let shown = c.content.ensures ∙ c.in_ok-printed.ensures in
     exact-none (IsCondOf sig None) (cond_text sig) c.args.text.now (cond_tree c.in-Some.cond)
-    (rw made at c.read_loose_cond.ensures.only) (MatchBool-at_false _ _ c.if-is_same.false c.in_ok-is_same.ensures)
+    (rw made at c.read_loose_cond.ensures.only)
+    (λ e. true≢false (sym (c.is_same.ensures.1 (shown ∙ e)) ∙ c.if-is_same.false))
 
 pub returns-in_default : goal.returns-in_default
 returns-in_default c =
