@@ -8,13 +8,10 @@ use Rattle.mp_io.specs.Devices.{Files, IsMissing, Rose, Text, held}
 use Rattle.mp_io.specs.Moments.{Shelved, Sunk}
 use Rattle.mp_io.specs.Printing.{AppendsFront}
 use Rattle.mp_io.proofs.Written.{whole_front}
-use Rattle.mp_text.specs.File.{FileTree}
-use Rattle.mp_text.specs.Sound.{IsSoundFile}
-use Rattle.mp_text.proofs.SoundFile.{IsSoundFile-IsFileOf}
 use Rattle.mp_command.specs.Answers.{Answers, IsReached, IsUnopened}
 use Rattle.mp_command.specs.Endings.{line_of, status_of, told_line, told_status}
 use Rattle.mp_command.specs.Messages.{long_line, memory_line, open_line, read_line, write_line}
-use Rattle.mp_command.specs.Outcome.{IsDoneWith, IsOutcome, IsOutcomeAt, IsOutcomeOver, IsOutcomeWith, IsOver, Named}
+use Rattle.mp_command.specs.Outcome.{IsOutcome, IsOutcomeAt, IsOutcomeWith, IsOver}
 use Rattle.mp_command.specs.Outcome.{Outcome, file_limit, program_limit, refused}
 use Rattle.mp_command.specs.Run.{HasOutcome, IsSomeMissing, IsTurnOf, Runs, Says, Wanted, statuses}
 use Rattle.mp_command.specs.Run.{wanted_by, wanted_program}
@@ -23,7 +20,7 @@ use Rattle.mp_command.specs.declared.ending.Told.{Told}
 use Rattle.mp_command.specs.declared.ending.Told.TheVariants as told
 use Rattle.mp_command.specs.declared.ending.Ending.{Ending}
 use Rattle.mp_command.specs.declared.ending.Ending.TheVariants as ending
-use Rattle.mp_command.proofs.Actions.{done-read}
+use Rattle.mp_command.proofs.Actions.{bytes-read}
 
 -- ---- laws of the outcome
 
@@ -43,22 +40,6 @@ over-silent : (limit : ℕ) (name : Text) (With : Text → Outcome → Type 0) (
 over-silent limit name With None o h over = λ _. (refused-silent (open_line name) o over).1
 over-silent limit name With (Some bytes) o h (inl long) = λ _. (refused-silent (long_line name) o long.1).1
 over-silent limit name With (Some bytes) o h (inr over) = h bytes over.1
-
--- over the bytes of a file the status isn't 4
-with-read : (request : Request) (file : FileTree) (program : Option Named) (o : Outcome) → IsSoundFile file
-    → IsDoneWith request file program o → o.status ≡ 4 → ⊥
-with-read request file None o sound h = done-read request file None request.action o sound h
-with-read request file (Some named) o sound (inl h) =
-    done-read request file (Some h.0) request.action o sound h.2
-with-read request file (Some named) o sound (inr h) =
-    λ e. let is : o.status ≡ 12 = ap (λ x. x.status) h.2 in absurd (omega (arith, is, e))
-
-bytes-read : (request : Request) (program : Option Named) (bytes : Text) (o : Outcome)
-    → IsOutcomeOver request program bytes o → o.status ≡ 4 → ⊥
-bytes-read request program bytes o (inl h) =
-    with-read request h.0 program o (IsSoundFile-IsFileOf bytes h.0 h.1) h.2
-bytes-read request program bytes o (inr h) =
-    λ e. let is : o.status ≡ 3 = ap (λ x. x.status) h.2 in absurd (omega (arith, is, e))
 
 behind-silent : (files : Files) (request : Request) (program : Option Text) (bytes : Text) (o : Outcome)
     → IsOutcomeWith files request program bytes o → IsSilent o

@@ -31,20 +31,21 @@ Acts o out ending.CannotWrite =
 Acts o out (ending.CannotOpen name) = ⊥
 Acts o out (ending.CannotRead name) = ⊥
 
--- what the words and the files decide
-abbrev pub IsTold : Ending → Type 0
-IsTold (ending.Told t) = ⊤
-IsTold _ = ⊥
+-- neither want of memory nor a write that failed
+abbrev pub IsSettled : Ending → Type 0
+IsSettled ending.Memory = ⊥
+IsSettled ending.CannotWrite = ⊥
+IsSettled _ = ⊤
 
 -- at a write that failed the count rose
 abbrev pub HasFailed : Ending → Sunk → Type 0
 HasFailed ending.CannotWrite out = Rose out.faults out.faults_after
 HasFailed _ out = ⊤
 
--- an action ends so, whichever of these outcomes it has, and it has one where the words and the files decide the ending
+-- an action ends so, whichever of these outcomes it has, and it has one but for want of memory or a write that failed
 pub record ActsAs (IsOne : Outcome → Type 0) (out : Sunk) (e : Ending) : Type 0 where
   pub each : (o : Outcome) → IsOne o → Acts o out e
-  pub some : IsTold e → (o : Outcome) × IsOne o
+  pub some : IsSettled e → (o : Outcome) × IsOne o
   pub failed : HasFailed e out
 
 -- A part of an action was done: its text was written, and of the outcome `rest` is left; or the action ended in it.

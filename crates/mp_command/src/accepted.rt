@@ -1,6 +1,6 @@
 //! The action `run`: what a match program accepts on the subjects of a file, a line each.
 
-ghost use Rattle.std.specs.Prelude.{◌≡◌, IfSome};
+ghost use Rattle.std.specs.Prelude.{IfSome};
 ghost use Rattle.mp_io.specs.Devices.{Text};
 ghost use Rattle.mp_io.specs.Moments.{sunk};
 ghost use Rattle.mp_text.specs.File.{file_tree};
@@ -13,7 +13,6 @@ ghost use Rattle.mp_gen.specs.Generated.{generated};
 ghost use Rattle.mp_gen.specs.Printable.{ArePrintable};
 ghost use Rattle.mp_vm.specs.ProgramList.{IsProgramList};
 ghost use Rattle.mp_command.specs.Answers.{Acts, ActsAs};
-ghost use Rattle.mp_command.specs.Endings.{status_of};
 ghost use Rattle.mp_command.specs.Outcome.{IsRun, matched, program_names};
 ghost use Rattle.mp_command.specs.Programs.{given};
 
@@ -40,11 +39,9 @@ fn print_named<'a, O: Sink>(
 ) -> Ending<'a>
     requires file { IsSoundFile (file_tree file.now) }
     requires program { IsValid (file_tree file.now).sig (program_view program.now) }
-    ensures acts { let f = file_tree file.now in (text : Text) →
+    ensures { let f = file_tree file.now in (text : Text) →
         IsPairsListed f (named names.now) (IsProgramList f.sig (program_view program.now)) limit text →
         Acts (matched (lines text)) (sunk O.Sink out.old out.new) result }
-    ensures used { status_of result ≡ 2 → ⊥ }
-    ensures read { status_of result ≡ 4 → ⊥ }
 {
     match Runner::new(alloc, &file.sig, program) {
         Ok(runner) => {
@@ -66,11 +63,9 @@ pub fn print_accepted<'a, O: Sink>(
 ) -> Ending<'a>
     requires file { IsSoundFile (file_tree file.now) }
     requires program { IsValid (file_tree file.now).sig (program_view program.now) }
-    ensures acts { let p = program_view program.now in let f = file_tree file.now in (text : Text) →
+    ensures { let p = program_view program.now in let f = file_tree file.now in (text : Text) →
         IsPairsListed f (program_names p) (IsProgramList f.sig p) limit text →
         Acts (matched (lines text)) (sunk O.Sink out.old out.new) result }
-    ensures used { status_of result ≡ 2 → ⊥ }
-    ensures read { status_of result ≡ 4 → ⊥ }
 {
     match program_names(alloc, program.rules.as_slice()) {
         Ok(names) => print_named(alloc, file, program, &names, limit, out),
@@ -87,11 +82,9 @@ pub fn print_rules_accepted<'a, O: Sink>(
 ) -> Ending<'a>
     requires file { IsSoundFile (file_tree file.now) }
     requires printable { ArePrintable (file_tree file.now).sig (file_tree file.now).rules }
-    ensures acts { let f = file_tree file.now in let p = generated f.sig f.rules in (text : Text) →
+    ensures { let f = file_tree file.now in let p = generated f.sig f.rules in (text : Text) →
         IsPairsListed f (program_names p) (IsProgramList f.sig p) limit text →
         Acts (matched (lines text)) (sunk O.Sink out.old out.new) result }
-    ensures used { status_of result ≡ 2 → ⊥ }
-    ensures read { status_of result ≡ 4 → ⊥ }
 {
     match rules_program(alloc, &file.sig, &file.rules) {
         Ok(program) => print_accepted(alloc, file, &program, limit, out),
@@ -112,9 +105,7 @@ pub fn run_file<'a, O: Sink>(
 ) -> Ending<'a>
     requires file { IsSoundFile (file_tree file.now) }
     requires program { IfSome (given program) (IsValid (file_tree file.now).sig) }
-    ensures acts { ActsAs (IsRun (file_tree file.now) (given program.entry)) (sunk O.Sink out.old out.new) result }
-    ensures used { status_of result ≡ 2 → ⊥ }
-    ensures read { status_of result ≡ 4 → ⊥ }
+    ensures { ActsAs (IsRun (file_tree file.now) (given program.entry)) (sunk O.Sink out.old out.new) result }
 {
     match program {
         Some(program) => print_accepted(alloc, file, program, None, out),

@@ -68,11 +68,9 @@ fn act<'a, O: Sink>(
     requires file { IsSoundFile (file_tree file.now) }
     requires read { IsRead (file_tree file.now) }
     requires program { IfSome (given program) (IsValid (file_tree file.now).sig) }
-    ensures acts { let asked_for = asked request.entry in
+    ensures { let asked_for = asked request.entry in
         ActsAs (IsDone asked_for (file_tree file.now) (given program.entry) asked_for.action)
         (sunk O.Sink out.old out.new) result }
-    ensures used { status_of result ≡ 2 → ⊥ }
-    ensures read { status_of result ≡ 4 → ⊥ }
 {
     match request.action {
         Action::Match => match_file(alloc, file, &request, out),
@@ -95,10 +93,8 @@ fn act_with<'a, O: Sink>(
     requires file { IsSoundFile (file_tree file.now) }
     requires read { IsRead (file_tree file.now) }
     requires length { IfSome (named text) (λ n. length n.bytes ≤ program_limit) }
-    ensures acts { ActsAs (IsDoneWith (asked request.entry) (file_tree file.now) (named text.entry))
+    ensures { ActsAs (IsDoneWith (asked request.entry) (file_tree file.now) (named text.entry))
         (sunk O.Sink out.old out.new) result }
-    ensures used { status_of result ≡ 2 → ⊥ }
-    ensures read { status_of result ≡ 4 → ⊥ }
 {
     let Some(text) = text else {
         return act(alloc, request, file, None, out);

@@ -1,6 +1,6 @@
 //! The action `compile`: a match program, printed.
 
-ghost use Rattle.std.specs.Prelude.{◌≡◌, suc, length, IfSome};
+ghost use Rattle.std.specs.Prelude.{suc, length, IfSome};
 ghost use Rattle.mp_io.specs.Moments.{sunk};
 ghost use Rattle.mp_text.specs.File.{file_tree};
 ghost use Rattle.mp_text.specs.Sound.{IsSoundFile};
@@ -9,7 +9,6 @@ ghost use Rattle.mp_program.specs.Reading.{IsValid};
 ghost use Rattle.mp_program.specs.RightForm.{IsShort};
 ghost use Rattle.mp_gen.specs.Generated.{generated};
 ghost use Rattle.mp_command.specs.Answers.{Acts};
-ghost use Rattle.mp_command.specs.Endings.{status_of};
 ghost use Rattle.mp_command.specs.Outcome.{printed_program, program_or_rules};
 ghost use Rattle.mp_command.specs.Programs.{given};
 
@@ -24,9 +23,7 @@ use std::alloc::Global;
 // Prints a program over the signature.
 fn print_program<'a, O: Sink>(sig: &Signature, program: &Program, out: &mut O) -> Ending<'a>
     requires { IsShort (suc (length program.now.code)) }
-    ensures acts { Acts (printed_program sig.now (program_view program.now)) (sunk O.Sink out.old out.new) result }
-    ensures used { status_of result ≡ 2 → ⊥ }
-    ensures read { status_of result ≡ 4 → ⊥ }
+    ensures { Acts (printed_program sig.now (program_view program.now)) (sunk O.Sink out.old out.new) result }
 {
     match write_program(sig, program, out) {
         Ok(()) => Ending::Told(Told::Done),
@@ -37,10 +34,8 @@ fn print_program<'a, O: Sink>(sig: &Signature, program: &Program, out: &mut O) -
 // Prints the program of the rules of the file.
 fn print_rules_program<'a, O: Sink>(alloc: Global, file: &File, out: &mut O) -> Ending<'a>
     requires { IsSoundFile (file_tree file.now) }
-    ensures acts { let f = file_tree file.now in
+    ensures { let f = file_tree file.now in
         Acts (printed_program f.sig (generated f.sig f.rules)) (sunk O.Sink out.old out.new) result }
-    ensures used { status_of result ≡ 2 → ⊥ }
-    ensures read { status_of result ≡ 4 → ⊥ }
 {
     match rules_program(alloc, &file.sig, &file.rules) {
         Ok(program) => print_program(&file.sig, &program, out),
@@ -61,10 +56,8 @@ pub fn compile_file<'a, O: Sink>(
 ) -> Ending<'a>
     requires file { IsSoundFile (file_tree file.now) }
     requires program { IfSome (given program) (IsValid (file_tree file.now).sig) }
-    ensures acts { let f = file_tree file.now in
+    ensures { let f = file_tree file.now in
         Acts (printed_program f.sig (program_or_rules f (given program.entry))) (sunk O.Sink out.old out.new) result }
-    ensures used { status_of result ≡ 2 → ⊥ }
-    ensures read { status_of result ≡ 4 → ⊥ }
 {
     match program {
         Some(program) => print_program(&file.sig, program, out),

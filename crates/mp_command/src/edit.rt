@@ -1,6 +1,6 @@
 //! The action `edit`: what the subjects of a file become by its edit statements, a line each.
 
-ghost use Rattle.std.specs.Prelude.{◌≡◌, ◌≤◌, length, map, slice_get, IfErr};
+ghost use Rattle.std.specs.Prelude.{◌≤◌, length, map, slice_get};
 ghost use Rattle.std.specs.List.{AllByRecursion};
 ghost use Rattle.mp_io.specs.Moments.{sunk};
 ghost use Rattle.mp_io.specs.Printing.{Prints};
@@ -11,7 +11,6 @@ ghost use Rattle.mp_term.specs.EditFault.{edit_fault};
 ghost use Rattle.mp_text.specs.File.{file_tree};
 ghost use Rattle.mp_text.specs.Sound.{IsMakeable, IsSoundEditSet, IsSoundFile};
 ghost use Rattle.mp_command.specs.Answers.{Acts, GoesOn};
-ghost use Rattle.mp_command.specs.Endings.{status_of};
 ghost use Rattle.mp_command.specs.Outcome.{Outcome, edited_before, edited_line, edits_made, statement_before};
 
 use crate::ending::{Ending, Told};
@@ -48,12 +47,10 @@ fn edit_subject<'a, O: Sink>(
 ) -> Result<(), Ending<'a>>
     requires few { length edits.now ≤ MAX_EDITS }
     requires makeable { IsMakeable (edit_fault sig.now (tree subject.now.term) edits.now) }
-    ensures goes_on { (rest : Outcome) → GoesOn (edited_before sig.now subject.now.name
+    ensures { (rest : Outcome) → GoesOn (edited_before sig.now subject.now.name
         (edit_fault sig.now (tree subject.now.term) edits.now)
         (map (normal sig.now) (edited edits.now (tree subject.now.term))) rest)
         rest (sunk O.Sink out.old out.new) result }
-    ensures used { IfErr result (λ e. status_of e ≡ 2 → ⊥) }
-    ensures read { IfErr result (λ e. status_of e ≡ 4 → ⊥) }
 {
     let name = &subject.name;
     let term = match replace_many(alloc, sig, &subject.term, edits) {
@@ -80,10 +77,8 @@ fn edit_statement<'a, O: Sink>(
     out: &mut O,
 ) -> Result<(), Ending<'a>>
     requires { IsSoundEditSet sig.now subjects.now set.now }
-    ensures goes_on { (rest : Outcome) → GoesOn (statement_before sig.now set.now.edits
+    ensures { (rest : Outcome) → GoesOn (statement_before sig.now set.now.edits
         (slice_get subjects.now set.now.subject) rest) rest (sunk O.Sink out.old out.new) result }
-    ensures used { IfErr result (λ e. status_of e ≡ 2 → ⊥) }
-    ensures read { IfErr result (λ e. status_of e ≡ 4 → ⊥) }
 {
     let Some(subject) = subjects.get(set.subject as usize) else {
         unreachable!()
@@ -100,9 +95,7 @@ fn edit_statements<'a, O: Sink>(
     out: &mut O,
 ) -> Ending<'a>
     requires { AllByRecursion (IsSoundEditSet sig.now subjects.now) sets.now }
-    ensures acts { Acts (edits_made sig.now subjects.now sets.now) (sunk O.Sink out.old out.new) result }
-    ensures used { status_of result ≡ 2 → ⊥ }
-    ensures read { status_of result ≡ 4 → ⊥ }
+    ensures { Acts (edits_made sig.now subjects.now sets.now) (sunk O.Sink out.old out.new) result }
 {
     for set in sets {
         match edit_statement(alloc, sig, subjects, set, out) {
@@ -120,10 +113,8 @@ fn edit_statements<'a, O: Sink>(
 /// the lines was written then.
 pub fn edit_file<'a, O: Sink>(alloc: Global, file: &File, out: &mut O) -> Ending<'a>
     requires { IsSoundFile (file_tree file.now) }
-    ensures acts { let f = file_tree file.now in
+    ensures { let f = file_tree file.now in
         Acts (edits_made f.sig f.subjects f.edits) (sunk O.Sink out.old out.new) result }
-    ensures used { status_of result ≡ 2 → ⊥ }
-    ensures read { status_of result ≡ 4 → ⊥ }
 {
     edit_statements(alloc, &file.sig, &file.subjects, file.edits.as_slice(), out)
 }

@@ -13,7 +13,6 @@ ghost use Rattle.mp_matches.specs.Printed.{Lists};
 ghost use Rattle.mp_words.specs.Requests.{asked};
 ghost use Rattle.mp_command.specs.Answers.{Acts};
 ghost use Rattle.mp_command.specs.Computed.{matched_whole, matches_by, over_syntactic};
-ghost use Rattle.mp_command.specs.Endings.{status_of};
 ghost use Rattle.mp_command.specs.Messages.{not_syntactic_line};
 ghost use Rattle.mp_command.specs.Outcome.{first_not_syntactic, matched, refused};
 ghost use Rattle.mp_command.specs.Programs.{IsRead};
@@ -37,9 +36,7 @@ use std::mem;
 
 /// How it ends where matches were listed so.
 pub fn ending<'a>(listed: Result<bool, ListFault>) -> Ending<'a>
-    ensures acts { (l : Listed) (out : Sunk) → Lists l out listed → Acts (matched l) out result }
-    ensures used { status_of result ≡ 2 → ⊥ }
-    ensures read { status_of result ≡ 4 → ⊥ }
+    ensures { (l : Listed) (out : Sunk) → Lists l out listed → Acts (matched l) out result }
 {
     match listed {
         Ok(true) => Ending::Told(Told::Done),
@@ -54,11 +51,9 @@ pub fn ending<'a>(listed: Result<bool, ListFault>) -> Ending<'a>
 // That the rule of the number isn't syntactic; nothing is written.
 fn not_syntactic<'a>(alloc: Global, rules: &Rules, number: u32) -> Ending<'a>
     requires within { number < length rules.now }
-    ensures acts { (rule : Rule) (text : Option Text) (faults : ℕ) → slice_get rules.now number ≡ Some rule →
+    ensures { (rule : Rule) (text : Option Text) (faults : ℕ) → slice_get rules.now number ≡ Some rule →
         Acts (refused 10 (not_syntactic_line rule.name))
         (record { old = text; new = text; faults = faults; faults_after = faults }) result }
-    ensures used { status_of result ≡ 2 → ⊥ }
-    ensures read { status_of result ≡ 4 → ⊥ }
 {
     let Some(rule) = rules.get(number as usize) else {
         unreachable!()
@@ -81,9 +76,7 @@ fn print_matches<'a, M: Matcher, O: Sink>(
     requires over { M.signature matcher.now ≡ (file_tree file.now).sig }
     requires finds { (t : Tree) (ps : List Pair) → IsAllList (file_tree file.now).sig (file_tree file.now).rules t ps
         → M.finds matcher.now t ps }
-    ensures acts { Acts (matched_whole (file_tree file.now) limit) (sunk O.Sink out.old out.new) result }
-    ensures used { status_of result ≡ 2 → ⊥ }
-    ensures read { status_of result ≡ 4 → ⊥ }
+    ensures { Acts (matched_whole (file_tree file.now) limit) (sunk O.Sink out.old out.new) result }
 {
     match rule_names(alloc, file.rules.as_slice()) {
         Ok(names) => ending(list_pairs(alloc, file, &names, matcher, limit, out)),
@@ -99,9 +92,7 @@ fn match_by_walk<'a, O: Sink>(
     out: &mut O,
 ) -> Ending<'a>
     requires { IsSoundFile (file_tree file.now) }
-    ensures acts { Acts (matched_whole (file_tree file.now) limit) (sunk O.Sink out.old out.new) result }
-    ensures used { status_of result ≡ 2 → ⊥ }
-    ensures read { status_of result ≡ 4 → ⊥ }
+    ensures { Acts (matched_whole (file_tree file.now) limit) (sunk O.Sink out.old out.new) result }
 {
     match ManyMatcher::build(alloc, &file.sig, &file.rules) {
         Ok(matcher) => {
@@ -122,11 +113,9 @@ fn match_by_nets<'a, O: Sink>(
     out: &mut O,
 ) -> Ending<'a>
     requires { IsSoundFile (file_tree file.now) }
-    ensures acts { let f = file_tree file.now in
+    ensures { let f = file_tree file.now in
         Acts (over_syntactic (matched_whole f limit) (first_not_syntactic f.sig f.rules))
         (sunk O.Sink out.old out.new) result }
-    ensures used { status_of result ≡ 2 → ⊥ }
-    ensures read { status_of result ≡ 4 → ⊥ }
 {
     match Nets::build(alloc, &file.sig, &file.rules) {
         Ok(nets) => print_matches(alloc, file, &NetMatcher { nets }, limit, out),
@@ -144,9 +133,7 @@ fn match_by_program<'a, O: Sink>(
 ) -> Ending<'a>
     requires file { IsSoundFile (file_tree file.now) }
     requires read { IsRead (file_tree file.now) }
-    ensures acts { Acts (matched_whole (file_tree file.now) limit) (sunk O.Sink out.old out.new) result }
-    ensures used { status_of result ≡ 2 → ⊥ }
-    ensures read { status_of result ≡ 4 → ⊥ }
+    ensures { Acts (matched_whole (file_tree file.now) limit) (sunk O.Sink out.old out.new) result }
 {
     signatures_of_files_are_spelled();
     members_and_conditions_of_files_are_spelled();
@@ -169,10 +156,8 @@ pub fn match_file<'a, O: Sink>(
 ) -> Ending<'a>
     requires file { IsSoundFile (file_tree file.now) }
     requires read { IsRead (file_tree file.now) }
-    ensures acts { Acts (matches_by request.now.engine (asked request.now) (file_tree file.now))
+    ensures { Acts (matches_by request.now.engine (asked request.now) (file_tree file.now))
         (sunk O.Sink out.old out.new) result }
-    ensures used { status_of result ≡ 2 → ⊥ }
-    ensures read { status_of result ≡ 4 → ⊥ }
 {
     match request.engine {
         Engine::One => ending(list_matches(alloc, file, request.limit, request.resume, out)),

@@ -1,13 +1,12 @@
 //! The program of an action: one that is read, or that of the rules of the file.
 
-ghost use Rattle.std.specs.Prelude.{◌≡◌, ◌≤◌, suc, length, IfErr, IfOk};
+ghost use Rattle.std.specs.Prelude.{◌≡◌, ◌≤◌, suc, length, IfOk};
 ghost use Rattle.mp_pattern.specs.SoundRule.{AreSoundRules};
 ghost use Rattle.mp_program.specs.ProgramView.{program_view};
 ghost use Rattle.mp_program.specs.RightForm.{IsShort};
 ghost use Rattle.mp_program.specs.Reading.{IsValid};
 ghost use Rattle.mp_gen.specs.Generated.{generated};
 ghost use Rattle.mp_gen.specs.Printable.{ArePrintable};
-ghost use Rattle.mp_command.specs.Endings.{status_of};
 ghost use Rattle.mp_command.specs.Outcome.{program_limit};
 ghost use Rattle.mp_command.specs.Programs.{IsReadAs, named_text};
 
@@ -45,9 +44,7 @@ pub fn read_program_text<'a>(
     text: ProgramText<'a, '_>,
 ) -> Result<Program, Ending<'a>>
     requires { length (named_text text).bytes ≤ program_limit }
-    ensures read { IsReadAs sig.now (named_text text.entry) result }
-    ensures used { IfErr result (λ e. status_of e ≡ 2 → ⊥) }
-    ensures unread { IfErr result (λ e. status_of e ≡ 4 → ⊥) }
+    ensures { IsReadAs sig.now (named_text text.entry) result }
 {
     match read_program(alloc, sig, text.bytes) {
         Ok(program) => Ok(program),

@@ -1,6 +1,6 @@
 //! The action `rewrite`: the subjects of a file, rewritten by its rules, a line each.
 
-ghost use Rattle.std.specs.Prelude.{◌≡◌, map, option_map, IfErr};
+ghost use Rattle.std.specs.Prelude.{◌≡◌, map, option_map};
 ghost use Rattle.std.specs.List.{AllByRecursion};
 ghost use Rattle.mp_io.specs.Moments.{sunk};
 ghost use Rattle.mp_io.specs.Printing.{Prints};
@@ -13,7 +13,6 @@ ghost use Rattle.mp_rewrite.specs.Answers.{rewriting_of};
 ghost use Rattle.mp_rewrite.specs.Computed.{rewriting};
 ghost use Rattle.mp_command.specs.Answers.{Acts, GoesOn};
 ghost use Rattle.mp_command.specs.Computed.{over_templates, rewritten};
-ghost use Rattle.mp_command.specs.Endings.{status_of};
 ghost use Rattle.mp_command.specs.Outcome.{Outcome, first_without_template, rewritten_before, rewritten_line};
 
 use crate::ending::{Ending, Told};
@@ -66,11 +65,9 @@ fn finish_subject<'a, O: Sink>(
     max: u64,
     out: &mut O,
 ) -> Result<(), Ending<'a>>
-    ensures goes_on { (rest : Outcome) → GoesOn
+    ensures { (rest : Outcome) → GoesOn
         (rewritten_before sig.now max name.now (rewriting_of rewritten.now) rest) rest
         (sunk O.Sink out.old out.new) result }
-    ensures used { IfErr result (λ e. status_of e ≡ 2 → ⊥) }
-    ensures read { IfErr result (λ e. status_of e ≡ 4 → ⊥) }
 {
     write_rewritten(sig, name, rewritten, out)?;
     if rewritten.more {
@@ -90,10 +87,8 @@ fn rewrite_subject<'a, O: Sink>(
 ) -> Result<(), Ending<'a>>
     requires rules { AreRewriteRules sig.now rules.now }
     requires term { IsRewritable sig.now (tree subject.now.term) }
-    ensures goes_on { (rest : Outcome) → GoesOn (rewritten_before sig.now max subject.now.name
+    ensures { (rest : Outcome) → GoesOn (rewritten_before sig.now max subject.now.name
         (rewriting sig.now rules.now max (tree subject.now.term)) rest) rest (sunk O.Sink out.old out.new) result }
-    ensures used { IfErr result (λ e. status_of e ≡ 2 → ⊥) }
-    ensures read { IfErr result (λ e. status_of e ≡ 4 → ⊥) }
 {
     let name = &subject.name;
     let rewritten = match replace_all(alloc, sig, rules, &subject.term, max) {
@@ -120,10 +115,8 @@ fn rewrite_subjects<'a, O: Sink>(
 ) -> Ending<'a>
     requires rules { AreRewriteRules sig.now rules.now }
     requires subjects { AllByRecursion (λ s. IsRewritable sig.now s.term) (map subject_tree subjects.now) }
-    ensures acts { Acts (rewritten sig.now max rules.now (map subject_tree subjects.now))
+    ensures { Acts (rewritten sig.now max rules.now (map subject_tree subjects.now))
         (sunk O.Sink out.old out.new) result }
-    ensures used { status_of result ≡ 2 → ⊥ }
-    ensures read { status_of result ≡ 4 → ⊥ }
 {
     for subject in subjects {
         match rewrite_subject(alloc, sig, rules, subject, max, out) {
@@ -142,11 +135,9 @@ fn rewrite_subjects<'a, O: Sink>(
 /// that failed; a front of the lines was written then.
 pub fn rewrite_file<'a, O: Sink>(alloc: Global, file: &File, max: u64, out: &mut O) -> Ending<'a>
     requires { IsSoundFile (file_tree file.now) }
-    ensures acts { let f = file_tree file.now in
+    ensures { let f = file_tree file.now in
         Acts (over_templates (rewritten f.sig max f.rules f.subjects) (first_without_template f.rules))
         (sunk O.Sink out.old out.new) result }
-    ensures used { status_of result ≡ 2 → ⊥ }
-    ensures read { status_of result ≡ 4 → ⊥ }
 {
     if let Some(rule) = first_without_template(file.rules.as_slice()) {
         return match rule.name.copy(alloc) {

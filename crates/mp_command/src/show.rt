@@ -1,10 +1,8 @@
 //! The action `show`: a file, printed.
 
-ghost use Rattle.std.specs.Prelude.{◌≡◌};
 ghost use Rattle.mp_io.specs.Moments.{sunk};
 ghost use Rattle.mp_text.specs.File.{file_tree};
 ghost use Rattle.mp_command.specs.Answers.{Acts};
-ghost use Rattle.mp_command.specs.Endings.{status_of};
 ghost use Rattle.mp_command.specs.Outcome.{shown};
 
 use crate::ending::{Ending, Told};
@@ -15,9 +13,7 @@ use mp_text::{File, write_file};
 ///
 /// The ending is that of `shown` of `specs/Outcome.antt`, or a write that failed; a front of its text was written then.
 pub fn show_file<'a, O: Sink>(file: &File, out: &mut O) -> Ending<'a>
-    ensures acts { Acts (shown (file_tree file.now)) (sunk O.Sink out.old out.new) result }
-    ensures used { status_of result ≡ 2 → ⊥ }
-    ensures read { status_of result ≡ 4 → ⊥ }
+    ensures { Acts (shown (file_tree file.now)) (sunk O.Sink out.old out.new) result }
 {
     match write_file(file, out) {
         Ok(()) => Ending::Told(Told::Done),

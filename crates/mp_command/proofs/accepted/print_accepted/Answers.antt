@@ -6,11 +6,11 @@ use Rattle.mp_vm.specs.ProgramList.{IsProgramList}
 use Rattle.mp_command.specs.Outcome.{program_names}
 use Rattle.mp_command.proofs.accepted.print_accepted.Goals as goal
 
-pub returns-in-Ok-clause-acts : goal.returns-in-Ok-clause-acts
-returns-in-Ok-clause-acts g c = λ text h.
+pub returns-in-Ok : goal.returns-in-Ok
+returns-in-Ok g c = λ text h.
     let file = file_tree c.args.file.now in
     let p = program_view c.args.program.now in
     let names : named c.deref.result.now ≡ program_names p =
     ap named c.deref.ensures.value ∙ c.in-Ok.ensures ∙ ap (map (λ r. r.name)) c.as_slice.ensures in
-    c.print_named.ensures.acts text
+    c.print_named.ensures text
     (subst (λ ns. IsPairsListed file ns (IsProgramList file.sig p) c.args.limit text) (sym names) h)

@@ -11,9 +11,9 @@ rules_program-requires g c = c.requires.file.rules
 pub print_accepted-requires-clause-program : goal.print_accepted-requires-clause-program
 print_accepted-requires-clause-program g c = c.in-Ok.ensures.valid c.requires.printable
 
-pub returns-in-Ok-clause-acts : goal.returns-in-Ok-clause-acts
-returns-in-Ok-clause-acts g c = λ text h.
+pub returns-in-Ok : goal.returns-in-Ok
+returns-in-Ok g c = λ text h.
     let file = file_tree c.args.file.now in
-    c.print_accepted.ensures.acts text
+    c.print_accepted.ensures text
     (subst (λ p. IsPairsListed file (program_names p) (IsProgramList file.sig p) c.args.limit text)
     (sym c.in-Ok.ensures.program) h)

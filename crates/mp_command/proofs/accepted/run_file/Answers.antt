@@ -17,8 +17,8 @@ pub print_accepted-requires-clause-program : goal.print_accepted-requires-clause
 print_accepted-requires-clause-program g c =
     given-valid (file_tree c.args.file.now).sig c.args.program c.in-Some.program c.in-Some.is c.requires.program
 
-pub returns-in-Some-clause-acts : goal.returns-in-Some-clause-acts
-returns-in-Some-clause-acts g c =
+pub returns-in-Some : goal.returns-in-Some
+returns-in-Some g c =
     let file = file_tree c.args.file.now in
     let p = program_view c.in-Some.program.now in
     let valid = given-valid file.sig c.args.program c.in-Some.program c.in-Some.is c.requires.program in
@@ -26,10 +26,10 @@ returns-in-Some-clause-acts g c =
     let out = sunk g.O.Sink c.args.out.now c.print_accepted.new.out in
     subst (λ o. ActsAs (IsRun file (given o)) out c.print_accepted.result) (sym c.in-Some.is)
     (ActsAs-exact (IsAccepted file p) out c.print_accepted.result (matched (lines listed.0))
-    (accepted-exact file c.requires.file p valid) (c.print_accepted.ensures.acts listed.0 listed.1))
+    (accepted-exact file c.requires.file p valid) (c.print_accepted.ensures listed.0 listed.1))
 
-pub returns-in-None-clause-acts : goal.returns-in-None-clause-acts
-returns-in-None-clause-acts g c =
+pub returns-in-None : goal.returns-in-None
+returns-in-None g c =
     let file = file_tree c.args.file.now in
     let out = sunk g.O.Sink c.args.out.now c.args.out.now in
     subst (λ o. ActsAs (IsRun file (given o)) out (ending.Told told.Done)) (sym c.in-None.is)

@@ -13,23 +13,23 @@ use Rattle.mp_command.proofs.Matched.{matches_by-exact}
 use Rattle.mp_command.proofs.Rewrites.{over_templates-exact}
 use Rattle.mp_command.proofs.answer.act.Goals as goal
 
-pub returns-in-Match-clause-acts : goal.returns-in-Match-clause-acts
-returns-in-Match-clause-acts g c =
+pub returns-in-Match : goal.returns-in-Match
+returns-in-Match g c =
     let request = asked c.args.request in
     let file = file_tree c.args.file.now in
     done-exact request file (given c.args.program) (sunk g.O.Sink c.args.out.now c.match_file.new.out)
     c.match_file.result action.Match c.in-Match.is (matches_by request.engine request file)
-    (λ o. matches_by-exact request.engine request file o c.requires.file) c.match_file.ensures.acts
+    (λ o. matches_by-exact request.engine request file o c.requires.file) c.match_file.ensures
 
-pub returns-in-Show-clause-acts : goal.returns-in-Show-clause-acts
-returns-in-Show-clause-acts g c =
+pub returns-in-Show : goal.returns-in-Show
+returns-in-Show g c =
     let file = file_tree c.args.file.now in
     done-exact (asked c.args.request) file (given c.args.program)
     (sunk g.O.Sink c.args.out.now c.show_file.new.out) c.show_file.result action.Show c.in-Show.is (shown file)
-    (λ o. (λ e. e, λ e. e)) c.show_file.ensures.acts
+    (λ o. (λ e. e, λ e. e)) c.show_file.ensures
 
-pub returns-in-Rewrite-clause-acts : goal.returns-in-Rewrite-clause-acts
-returns-in-Rewrite-clause-acts g c =
+pub returns-in-Rewrite : goal.returns-in-Rewrite
+returns-in-Rewrite g c =
     let request = asked c.args.request in
     let file = file_tree c.args.file.now in
     let out = sunk g.O.Sink c.args.out.now c.rewrite_file.new.out in
@@ -37,24 +37,24 @@ returns-in-Rewrite-clause-acts g c =
     (over_templates (rewritten file.sig request.max file.rules file.subjects) (first_without_template file.rules))
     (λ o. over_templates-exact request.max file o c.requires.file)
     (subst (λ max. Acts (over_templates (rewritten file.sig max file.rules file.subjects)
-    (first_without_template file.rules)) out c.rewrite_file.result) c.from.ensures c.rewrite_file.ensures.acts)
+    (first_without_template file.rules)) out c.rewrite_file.result) c.from.ensures c.rewrite_file.ensures)
 
-pub returns-in-Edit-clause-acts : goal.returns-in-Edit-clause-acts
-returns-in-Edit-clause-acts g c =
+pub returns-in-Edit : goal.returns-in-Edit
+returns-in-Edit g c =
     let file = file_tree c.args.file.now in
     done-exact (asked c.args.request) file (given c.args.program)
     (sunk g.O.Sink c.args.out.now c.edit_file.new.out) c.edit_file.result action.Edit c.in-Edit.is
-    (edits_made file.sig file.subjects file.edits) (λ o. (λ e. e, λ e. e)) c.edit_file.ensures.acts
+    (edits_made file.sig file.subjects file.edits) (λ o. (λ e. e, λ e. e)) c.edit_file.ensures
 
-pub returns-in-Compile-clause-acts : goal.returns-in-Compile-clause-acts
-returns-in-Compile-clause-acts g c =
+pub returns-in-Compile : goal.returns-in-Compile
+returns-in-Compile g c =
     let file = file_tree c.args.file.now in
     let program = given c.args.program in
     done-exact (asked c.args.request) file program (sunk g.O.Sink c.args.out.now c.compile_file.new.out)
     c.compile_file.result action.Compile c.in-Compile.is (printed_program file.sig (program_or_rules file program))
-    (λ o. (λ e. e, λ e. e)) c.compile_file.ensures.acts
+    (λ o. (λ e. e, λ e. e)) c.compile_file.ensures
 
-pub returns-in-Run-clause-acts : goal.returns-in-Run-clause-acts
-returns-in-Run-clause-acts g c =
+pub returns-in-Run : goal.returns-in-Run
+returns-in-Run g c =
     subst (λ a. ActsAs (IsDone (asked c.args.request) (file_tree c.args.file.now) (given c.args.program) a)
-    (sunk g.O.Sink c.args.out.now c.run_file.new.out) c.run_file.result) (sym c.in-Run.is) c.run_file.ensures.acts
+    (sunk g.O.Sink c.args.out.now c.run_file.new.out) c.run_file.result) (sym c.in-Run.is) c.run_file.ensures

@@ -14,16 +14,16 @@ print_program-requires g c =
     valid-short file.sig (program_view c.in-Some.program.now)
     (given-valid file.sig c.args.program c.in-Some.program c.in-Some.is c.requires.program)
 
-pub returns-in-Some-clause-acts : goal.returns-in-Some-clause-acts
-returns-in-Some-clause-acts g c =
+pub returns-in-Some : goal.returns-in-Some
+returns-in-Some g c =
     let file = file_tree c.args.file.now in
     subst (λ o. Acts (printed_program file.sig (program_or_rules file (given o)))
     (sunk g.O.Sink c.args.out.now c.print_program.new.out) c.print_program.result) (sym c.in-Some.is)
-    c.print_program.ensures.acts
+    c.print_program.ensures
 
-pub returns-in-None-clause-acts : goal.returns-in-None-clause-acts
-returns-in-None-clause-acts g c =
+pub returns-in-None : goal.returns-in-None
+returns-in-None g c =
     let file = file_tree c.args.file.now in
     subst (λ o. Acts (printed_program file.sig (program_or_rules file (given o)))
     (sunk g.O.Sink c.args.out.now c.print_rules_program.new.out) c.print_rules_program.result) (sym c.in-None.is)
-    c.print_rules_program.ensures.acts
+    c.print_rules_program.ensures

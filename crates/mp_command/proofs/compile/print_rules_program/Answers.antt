@@ -8,8 +8,8 @@ use Rattle.mp_command.proofs.compile.print_rules_program.Goals as goal
 pub rules_program-requires : goal.rules_program-requires
 rules_program-requires g c = c.requires.rules
 
-pub returns-in-Ok-clause-acts : goal.returns-in-Ok-clause-acts
-returns-in-Ok-clause-acts g c =
+pub returns-in-Ok : goal.returns-in-Ok
+returns-in-Ok g c =
     let file = file_tree c.args.file.now in
     subst (λ p. Acts (printed_program file.sig p) (sunk g.O.Sink c.args.out.now c.print_program.new.out)
-    c.print_program.result) c.in-Ok.ensures.program c.print_program.ensures.acts
+    c.print_program.result) c.in-Ok.ensures.program c.print_program.ensures

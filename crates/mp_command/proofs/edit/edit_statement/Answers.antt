@@ -4,8 +4,8 @@ use Rattle.mp_command.specs.Answers.{GoesOn}
 use Rattle.mp_command.specs.Outcome.{statement_before}
 use Rattle.mp_command.proofs.edit.edit_statement.Goals as goal
 
-pub returns-clause-goes_on : goal.returns-clause-goes_on
-returns-clause-goes_on g c = λ rest.
+pub returns : goal.returns
+returns g c = λ rest.
     subst (λ s. GoesOn (statement_before c.args.sig.now c.args.set.now.edits s rest) rest
     (sunk g.O.Sink c.args.out.now c.edit_subject.new.out) c.edit_subject.result)
-    (sym c.in-Some.ensures) (c.edit_subject.ensures.goes_on rest)
+    (sym c.in-Some.ensures) (c.edit_subject.ensures rest)

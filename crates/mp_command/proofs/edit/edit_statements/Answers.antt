@@ -13,14 +13,14 @@ edit_statement-requires g c =
     (drop-item c.args.sets.now c.loop-set.set-index c.set-item.result (omega arith) c.set-item.is)
     c.loop-set.invariant.sound).0
 
-pub returns-in-Err-clause-acts : goal.returns-in-Err-clause-acts
-returns-in-Err-clause-acts g c =
+pub returns-in-Err : goal.returns-in-Err
+returns-in-Err g c =
     let left = edits_made c.args.sig.now c.args.subjects.now in
     loop-ends left
     (λ set. statement_before c.args.sig.now set.edits (slice_get c.args.subjects.now set.subject))
     (λ set sets. refl) (left c.args.sets.now) c.args.sets.now c.loop-set.set-index _ _ _ _
     c.loop-set.invariant.so_far c.set-item.result (omega arith) c.set-item.is _ _
-    c.in-Err.ending c.in-Err.ensures.goes_on
+    c.in-Err.ending c.in-Err.ensures
 
 pub loop-set-preserved : goal.loop-set-preserved
 loop-set-preserved g c =
@@ -29,7 +29,7 @@ loop-set-preserved g c =
       so_far = loop-further left
           (λ set. statement_before c.args.sig.now set.edits (slice_get c.args.subjects.now set.subject))
           (λ set sets. refl) (left c.args.sets.now) c.args.sets.now c.loop-set.set-index _ _ _ _
-          c.loop-set.invariant.so_far c.set-item.result (omega arith) c.set-item.is _ _ c.in-Ok.ensures.goes_on;
+          c.loop-set.invariant.so_far c.set-item.result (omega arith) c.set-item.is _ _ c.in-Ok.ensures;
       sound = (subst (AllByRecursion (IsSoundEditSet c.args.sig.now c.args.subjects.now))
           (drop-item c.args.sets.now c.loop-set.set-index c.set-item.result (omega arith) c.set-item.is)
           c.loop-set.invariant.sound).1;

@@ -8,8 +8,8 @@ use Rattle.mp_command.proofs.Edits.{edited_before-made}
 use Rattle.mp_command.proofs.Parted.{GoesOn-err, write-failed}
 use Rattle.mp_command.proofs.edit.edit_subject.Goals as goal
 
-pub returns-in_err-write_edited-clause-goes_on : goal.returns-in_err-write_edited-clause-goes_on
-returns-in_err-write_edited-clause-goes_on g c = λ rest.
+pub returns-in_err-write_edited : goal.returns-in_err-write_edited
+returns-in_err-write_edited g c = λ rest.
     let line = edited_line c.args.sig.now c.args.subject.now.name (tree c.in-Ok.term) in
     let printed = c.in_err-write_edited.ensures in
     GoesOn-err _ rest _ ending.CannotWrite _ c.from_residual-in_err-write_edited.ensures.1

@@ -15,20 +15,20 @@ print_matches-requires-clause-finds g c = λ t ps h.
     subst (λ sig. IsAllList sig nets.rules t ps) (sym c.in-Ok.ensures.sig)
     (subst (λ rs. IsAllList file.sig rs t ps) (sym c.in-Ok.ensures.rules) h)
 
-pub returns-in-Ok-clause-acts : goal.returns-in-Ok-clause-acts
-returns-in-Ok-clause-acts g c =
+pub returns-in-Ok : goal.returns-in-Ok
+returns-in-Ok g c =
     let file = file_tree c.args.file.now in
     let none = first_not_syntactic-none file.sig file.rules (is-none _ c.in-Ok.ensures.refused) in
     subst (λ found. Acts (over_syntactic (matched_whole file c.args.limit) found)
     (sunk g.O.Sink c.args.out.now c.print_matches.new.out) c.print_matches.result) (sym none)
-    c.print_matches.ensures.acts
+    c.print_matches.ensures
 
-pub returns-in-Err-NotSyntactic-clause-acts : goal.returns-in-Err-NotSyntactic-clause-acts
-returns-in-Err-NotSyntactic-clause-acts g c =
+pub returns-in-Err-NotSyntactic : goal.returns-in-Err-NotSyntactic
+returns-in-Err-NotSyntactic g c =
     let file = file_tree c.args.file.now in
     let refused = c.in-Err-NotSyntactic in
     let told = first_not_syntactic-some file.sig file.rules refused.rule
     (refused-some _ refused.field-0 refused.rule refused.ensures.only_refused refused.field-0-is) in
     subst (λ found. Acts (over_syntactic (matched_whole file c.args.limit) found)
     (sunk g.O.Sink c.args.out.now c.args.out.now) c.not_syntactic.result) (sym told.2)
-    (c.not_syntactic.ensures.acts told.0 _ _ (ap (slice_get file.rules) refused.rule-is ∙ told.1))
+    (c.not_syntactic.ensures told.0 _ _ (ap (slice_get file.rules) refused.rule-is ∙ told.1))

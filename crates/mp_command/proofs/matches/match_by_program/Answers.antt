@@ -17,8 +17,8 @@ print_rules_accepted-requires-clause-printable g c =
       shallow = told.shallow bytes file read;
     }
 
-pub returns-clause-acts : goal.returns-clause-acts
-returns-clause-acts g c =
+pub returns : goal.returns
+returns g c =
     let file = file_tree c.args.file.now in
     let told = c.members_and_conditions_of_files_are_spelled.ensures in
     let (bytes, is) = c.requires.read in
@@ -31,7 +31,7 @@ returns-clause-acts g c =
     let conditions =
     c.a_generated_program_is_valid.ensures.conditions file.sig file.rules sound printable in
     let read = read-rules file.sig file.rules conditions in
-    c.print_rules_accepted.ensures.acts (all_text file c.requires.file c.args.limit)
+    c.print_rules_accepted.ensures (all_text file c.requires.file c.args.limit)
     (generated-listed file c.requires.file c.args.limit (λ t normal.
     generated-lists file.sig file.rules sound read t normal
     (λ is. c.a_generated_program_has_the_items_of_the_rules.ensures.items file.sig file.rules t is sound normal)))

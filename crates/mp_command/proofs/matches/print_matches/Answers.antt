@@ -8,8 +8,8 @@ use Rattle.mp_matches.proofs.PairsListedLaws.{IsPairsListed-under}
 use Rattle.mp_command.proofs.Matched.{all_listed, all_text}
 use Rattle.mp_command.proofs.matches.print_matches.Goals as goal
 
-pub returns-in-Ok-clause-acts : goal.returns-in-Ok-clause-acts
-returns-in-Ok-clause-acts g c =
+pub returns-in-Ok : goal.returns-in-Ok
+returns-in-Ok g c =
     let file = file_tree c.args.file.now in
     let limit = c.args.limit in
     let finds = g.M.Matcher.finds c.args.matcher.now in
@@ -21,4 +21,4 @@ returns-in-Ok-clause-acts g c =
     (IsPairsListed-under file (names_of file.rules) (IsAllList file.sig file.rules) finds
     (all-from_in _ file.subjects (λ s i ps. c.requires.finds s.term ps)) limit text
     (all_listed file c.requires.file limit)) in
-    c.ending.ensures.acts _ _ (c.list_pairs.ensures text listed)
+    c.ending.ensures _ _ (c.list_pairs.ensures text listed)

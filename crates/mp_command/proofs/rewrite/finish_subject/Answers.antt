@@ -10,8 +10,8 @@ use Rattle.mp_command.proofs.Parted.{GoesOn-err, memory-late, told-late, write-f
 use Rattle.mp_command.proofs.Rewrites.{line-first, line-goes_on, line-last}
 use Rattle.mp_command.proofs.rewrite.finish_subject.Goals as goal
 
-pub returns-in_err-write_rewritten-clause-goes_on : goal.returns-in_err-write_rewritten-clause-goes_on
-returns-in_err-write_rewritten-clause-goes_on g c = λ rest.
+pub returns-in_err-write_rewritten : goal.returns-in_err-write_rewritten
+returns-in_err-write_rewritten g c = λ rest.
     let r = c.args.rewritten.now in
     let (o, is) = line-first c.args.sig.now c.args.max c.args.name.now r rest in
     let line = rewritten_line c.args.sig.now c.args.name.now (tree r.term) r.turns in
@@ -20,8 +20,8 @@ returns-in_err-write_rewritten-clause-goes_on g c = λ rest.
     (subst (λ p. Acts p (sunk g.O.Sink c.args.out.now c.write_rewritten.new.out) ending.CannotWrite) (sym is)
     (write-failed line o _ _ _ _ printed.front printed.cause.failed))
 
-pub returns-in_err-copy-clause-goes_on : goal.returns-in_err-copy-clause-goes_on
-returns-in_err-copy-clause-goes_on g c = λ rest.
+pub returns-in_err-copy : goal.returns-in_err-copy
+returns-in_err-copy g c = λ rest.
     let r = c.args.rewritten.now in
     let (o, is) = line-first c.args.sig.now c.args.max c.args.name.now r rest in
     let line = rewritten_line c.args.sig.now c.args.name.now (tree r.term) r.turns in
@@ -30,8 +30,8 @@ returns-in_err-copy-clause-goes_on g c = λ rest.
     (memory-late line o _ _ (g.O.Sink.faults c.args.out.now) (g.O.Sink.faults c.write_rewritten.new.out)
     c.in_ok-write_rewritten.ensures.whole))
 
-pub returns-then-rewritten-clause-goes_on : goal.returns-then-rewritten-clause-goes_on
-returns-then-rewritten-clause-goes_on g c = λ rest.
+pub returns-then-rewritten : goal.returns-then-rewritten
+returns-then-rewritten g c = λ rest.
     let r = c.args.rewritten.now in
     let name = c.args.name.now in
     let line = rewritten_line c.args.sig.now name (tree r.term) r.turns in
@@ -42,8 +42,8 @@ returns-then-rewritten-clause-goes_on g c = λ rest.
     (told-late line 6 (limit_line name c.args.max) limit _ _ _ _ printed.whole printed.cause.stays refl
     (ap (λ n. limit_line n c.args.max) c.in_ok-copy.ensures))
 
-pub returns-clause-goes_on : goal.returns-clause-goes_on
-returns-clause-goes_on g c = λ rest.
+pub returns : goal.returns
+returns g c = λ rest.
     let r = c.args.rewritten.now in
     let line = rewritten_line c.args.sig.now c.args.name.now (tree r.term) r.turns in
     let printed = c.in_ok-write_rewritten.ensures in (

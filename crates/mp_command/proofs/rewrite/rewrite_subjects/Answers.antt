@@ -14,13 +14,13 @@ rewrite_subject-requires g c = record {
       c.loop-subject.invariant.rewritable).0;
 }
 
-pub returns-in-Err-clause-acts : goal.returns-in-Err-clause-acts
-returns-in-Err-clause-acts g c =
+pub returns-in-Err : goal.returns-in-Err
+returns-in-Err g c =
     let left = subjects_left c.args.sig.now c.args.max c.args.rules.now in
     loop-ends left (subject_part c.args.sig.now c.args.max c.args.rules.now) (λ s ss. refl)
     (left c.args.subjects.now) c.args.subjects.now c.loop-subject.subject-index _ _ _ _
     c.loop-subject.invariant.so_far c.subject-item.result (omega arith) c.subject-item.is _ _
-    c.in-Err.ending c.in-Err.ensures.goes_on
+    c.in-Err.ending c.in-Err.ensures
 
 pub loop-subject-preserved : goal.loop-subject-preserved
 loop-subject-preserved g c =
@@ -29,7 +29,7 @@ loop-subject-preserved g c =
       so_far = loop-further left (subject_part c.args.sig.now c.args.max c.args.rules.now) (λ s ss. refl)
           (left c.args.subjects.now) c.args.subjects.now c.loop-subject.subject-index _ _ _ _
           c.loop-subject.invariant.so_far c.subject-item.result (omega arith) c.subject-item.is _ _
-          c.in-Ok.ensures.goes_on;
+          c.in-Ok.ensures;
       rewritable =
           (AllByRecursion-drop subject_tree (λ s. IsRewritable c.args.sig.now s.term) c.args.subjects.now
           c.loop-subject.subject-index c.subject-item.result (omega arith) c.subject-item.is
