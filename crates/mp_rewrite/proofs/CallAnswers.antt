@@ -1,22 +1,13 @@
 -- What the calls answer by the functions is what they answer.
-use Rattle.std.proofs.Common.{◌≡◌, ℕ, suc, ◌+◌, ◌-◌, ◌<◌, ◌≤◌, true, Bool, List, ◌∷◌}
-use Rattle.std.proofs.Common.{[], refl, sym, ap, ◌∙◌, subst, arith}
-use Rattle.std.proofs.Common.{inl, inr, add-one}
-use Rattle.std.specs.Prelude.{◌⊎◌, Option, Some, None, Result, Ok, Err}
-use Rattle.std.specs.Prelude.{is_some, if◌then◌else◌, option_map}
+use Rattle.std.proofs.Common.{◌≡◌, ℕ, suc, ◌+◌, ◌-◌, ◌<◌, ◌≤◌, Bool, List}
+use Rattle.std.proofs.Common.{refl, sym, ap, ◌∙◌, subst, arith}
+use Rattle.std.proofs.Common.{add-one}
+use Rattle.std.specs.Prelude.{Option, Some, None, Result, Ok, Err}
+use Rattle.std.specs.Prelude.{is_some, if◌then◌else◌}
 use Rattle.mp_term.specs.declared.term.Term.{Term}
-use Rattle.mp_term.specs.declared.size.Excess.{Excess}
 use Rattle.mp_term.specs.declared.size.Excess.TheVariants as size
-use Rattle.mp_term.specs.declared.edit_fault.EditFault.{EditFault}
-use Rattle.mp_term.specs.declared.edit_fault.EditFault.TheVariants as edit
 use Rattle.mp_term.specs.Tree.{Tree}
-use Rattle.mp_term.specs.Excess.{excess}
-use Rattle.mp_term.specs.Positions.{subterm}
-use Rattle.mp_term.specs.Signature.{Sig, IsSignature, well_formed}
-use Rattle.mp_term.specs.Edited.{one_edit}
-use Rattle.mp_term.specs.EditFault.{edit_fault, fault_of}
-use Rattle.mp_term.specs.Replaced.{replaced}
-use Rattle.mp_term.proofs.ReplacedLaws.{fault-replaced}
+use Rattle.mp_term.specs.Signature.{Sig, IsSignature}
 use Rattle.mp_pattern.specs.Admission.{Rule}
 use Rattle.mp_pattern.specs.Step.{Stepped, stepped}
 use Rattle.mp_pattern.specs.Step as step
@@ -29,37 +20,10 @@ use Rattle.mp_rewrite.specs.declared.rewrite.Rewritten.{Rewritten}
 use Rattle.mp_rewrite.specs.declared.stop.Stop.{Stop}
 use Rattle.mp_rewrite.specs.declared.stop.Stop.TheVariants as stop
 use Rattle.mp_rewrite.specs.Faults.{fault_after}
-use Rattle.mp_rewrite.specs.Made.{IsNext}
+use Rattle.mp_rewrite.specs.Turn.{IsStopped}
 use Rattle.mp_rewrite.specs.declared.fault.RewriteFault.{RewriteFault}
 use Rattle.mp_rewrite.specs.declared.fault.RewriteFault.TheVariants.{TooLarge, TooDeep, Memory}
 use Rattle.mp_rewrite.proofs.Steps.{IsStep-next_step, IsDead-next_step, IsRewriting-rewriting}
-
--- ---- the fault of the one edit
-
--- the fault says nothing of positions or numbers of arguments
-abbrev pub IsBySize : EditFault → Type 0
-IsBySize (edit.TooLarge nodes) = Unit {0}
-IsBySize (edit.TooDeep depth) = Unit {0}
-IsBySize edit.Memory = Unit {0}
-IsBySize _ = ⊥
-
-by_size : (o : Option Excess) (e : EditFault) → option_map fault_of o ≡ Some e → IsBySize e
-by_size None e h = cc
-by_size (Some (size.TooLarge nodes)) e h = let same : edit.TooLarge nodes ≡ e = cc in subst IsBySize same tt
-by_size (Some (size.TooDeep depth)) e h = let same : edit.TooDeep depth ≡ e = cc in subst IsBySize same tt
-
-by_fault : (sig : Sig) (p : List ℕ) (u t : Tree) (o : Option Tree) (e : EditFault) → subterm t p ≡ o → is_some o ≡ true
-    → well_formed sig t ≡ true → (edit_fault sig t (one_edit p u) ≡ Some e) ⊎ (e ≡ edit.Memory) → IsBySize e
-by_fault sig p u t None e at there formed h = cc
-by_fault sig p u t (Some v) e at there formed h = elim h [
-  | inl h ↦ by_size (excess (replaced p u t ∷ [])) e (sym (fault-replaced sig p u t v formed at) ∙ h)
-  | inr h ↦ subst IsBySize (sym h) tt
-]
-
--- the fault of putting a term in at the position of a subterm
-pub IsBySize-one_edit : (sig : Sig) (p : List ℕ) (u t : Tree) (e : EditFault) → is_some (subterm t p) ≡ true
-    → well_formed sig t ≡ true → (edit_fault sig t (one_edit p u) ≡ Some e) ⊎ (e ≡ edit.Memory) → IsBySize e
-IsBySize-one_edit sig p u t e there formed h = by_fault sig p u t (subterm t p) e refl there formed h
 
 -- ---- the loop
 
@@ -108,16 +72,10 @@ module _ (sig : Sig) (rules : List Rule) (signature : IsSignature sig) (sound : 
       (IsRewriting-rewriting sig rules signature sound limit t rewritable _).1 h
   IsRewritingAnswer-computed limit (Err Memory) h = tt
 
--- what a function makes of an option is there where the option is
 -- ---- one step
 
--- where a step is made, or none can be
-pub IsComputedStep-next : (o : Option Stepped) (r : Option Term) → IsNext o (Ok r) → IsComputedStep o (Ok r)
-IsComputedStep-next o None h = h
-IsComputedStep-next o (Some u) h = h
-
--- where it isn't made
-pub IsComputedStep-stop : (o : Option Stepped) (e : Stop) → IsNext o (Err e) → IsComputedStep o (Err (fault_after e 0))
+-- the fault of a step that isn't made
+pub IsComputedStep-stop : (o : Option Stepped) (e : Stop) → IsStopped o e → IsComputedStep o (Err (fault_after e 0))
 IsComputedStep-stop o (stop.Exceeded (size.TooLarge nodes)) h = (h, refl)
 IsComputedStep-stop o (stop.Exceeded (size.TooDeep depth)) h = (h, refl)
 IsComputedStep-stop o stop.Memory h = tt
@@ -126,7 +84,7 @@ IsComputedStep-stop o stop.Memory h = tt
 
 -- rewriting that stops at a step which isn't made
 pub stopped : (sig : Sig) (rules : List Rule) (limit turns : ℕ) (t : Tree) (w : Rewriting) (e : Stop) → turns < limit
-    → rewriting_from sig rules (limit - turns) turns t ≡ w → IsNext (next_step sig rules t) (Err e)
+    → rewriting_from sig rules (limit - turns) turns t ≡ w → IsStopped (next_step sig rules t) e
     → IsComputedRewriting w (Err (fault_after e turns))
 stopped sig rules limit turns t w (stop.Exceeded (size.TooLarge nodes)) below left h =
     sym left ∙ ap (λ k. rewriting_from sig rules k turns t) (more-left limit turns below)

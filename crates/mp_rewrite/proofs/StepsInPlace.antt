@@ -1,10 +1,11 @@
 -- Steps that are made in place.
-use Rattle.std.proofs.Common.{◌≡◌, ◌∙◌, ap, sym, refl, ℕ, zero, suc, ◌+◌, ◌≤◌}
+use Rattle.std.proofs.Common.{◌≡◌, ◌∙◌, ap, sym, refl, subst, ℕ, zero, suc, ◌+◌, ◌≤◌}
 use Rattle.std.proofs.Common.{max, Bool, true, false, List, [], ◌∷◌}
 use Rattle.std.proofs.Common.{length, map, arith}
 use Rattle.std.specs.Prelude.{Option, Some, None, Result, Ok, Err}
 use Rattle.std.specs.Prelude.{nat_lt, if◌then◌else◌, slice_get, option_and_then}
 use Rattle.std.specs.Option.{option_or}
+use Rattle.std.specs.Result.{IsErrAnd}
 use Rattle.std.proofs.lemmas.Bool.Decides.{nat_tests}
 use Rattle.mp_term.specs.declared.size.Excess.{Excess}
 use Rattle.mp_term.specs.declared.size.Excess.TheVariants.{TooLarge, TooDeep}
@@ -19,14 +20,24 @@ use Rattle.mp_term.specs.Replaced.{replaced}
 use Rattle.mp_term.proofs.ReplacedLaws.{edited-one}
 use Rattle.mp_pattern.specs.TemplateTree.{Template}
 use Rattle.mp_pattern.specs.Instance.{IsInstance}
+use Rattle.mp_subst.specs.declared.apply_fault.ApplyFault.{ApplyFault}
+use Rattle.mp_subst.specs.declared.apply_fault.ApplyFault.TheVariants as apply
+use Rattle.mp_subst.specs.Applied.{IsExceeded}
 use Rattle.mp_pattern.specs.Step.{Stepped, stepped, exceeded, put_in, step_excess, IsStepTo}
 use Rattle.mp_rewrite.specs.declared.in_place.Marked.{Marked}
 use Rattle.mp_rewrite.specs.declared.stop.Stop.{Stop}
 use Rattle.mp_rewrite.specs.declared.stop.Stop.TheVariants.{Exceeded, Memory}
 use Rattle.mp_term.specs.View.{tree}
-use Rattle.mp_rewrite.specs.Turn.{IsPutIn, IsMadeInPlace}
+use Rattle.mp_rewrite.specs.Faults.{stop_of}
+use Rattle.mp_rewrite.specs.Turn.{IsPutIn, IsMade, IsStopped}
 use Rattle.mp_rewrite.specs.Computed.{Redex, step_at}
 use Rattle.mp_rewrite.proofs.Steps.{IsStepBy-step_at}
+
+-- an answer that is this error
+pub of-err : {T E : Type 0} (P : Result T E → Type 0) (r : Result T E) (e : E) → IsErrAnd r (λ x. x ≡ e) → P (Err e)
+    → P r
+of-err P (Err x) e is h = subst (λ y. P (Err y)) (sym is) h
+of-err P (Ok u) e is h = absurd is
 
 -- ---- sizes
 
@@ -86,6 +97,16 @@ module _ (sig : Sig) (t : Tree) (r : Redex) (x : Template) (spliced : Tree)
       ap (λ p. option_or p (excess (put_in sig t r.position spliced))) fits
       ∙ ap excess (edited-one r.position (normal sig spliced) t) ∙ h
 
+  -- the instance is too large or too deep
+  pub step-refused : (f : ApplyFault) → IsExceeded x r.match.subst f → IsStopped (step_at sig t r) (stop_of f)
+  step-refused (apply.TooLarge nodes) h =
+      made (exceeded (TooLarge nodes))
+      (ap (λ p. option_or p (excess (put_in sig t r.position spliced))) (h spliced instance))
+  step-refused (apply.TooDeep depth) h =
+      made (exceeded (TooDeep depth))
+      (ap (λ p. option_or p (excess (put_in sig t r.position spliced))) (h spliced instance))
+  step-refused apply.Memory h = tt
+
   -- the term with its normal form put in is
   pub step-exceeded : (e : Excess) → excess (spliced ∷ []) ≡ None
       → excess (replaced r.position (normal sig spliced) t ∷ []) ≡ Some e → step_at sig t r ≡ Some (exceeded e)
@@ -103,7 +124,7 @@ module _ (sig : Sig) (t : Tree) (r : Redex) (x : Template) (spliced : Tree)
 
   -- and so the answer is that of putting in
   pub step-put_in : (result : Result Marked Stop) → excess (spliced ∷ []) ≡ None
-      → IsPutIn sig (replaced r.position (normal sig spliced) t) result → IsMadeInPlace (step_at sig t r) result
+      → IsPutIn sig (replaced r.position (normal sig spliced) t) result → IsMade (step_at sig t r) result
   step-put_in (Ok m) fits h = step-made (tree m.term) fits h.0 h.1
   step-put_in (Err (Exceeded e)) fits h = step-exceeded e fits h
   step-put_in (Err Memory) fits h = tt

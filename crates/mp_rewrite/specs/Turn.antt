@@ -9,7 +9,6 @@ use Rattle.mp_term.specs.Signature.{Sig}
 use Rattle.mp_pattern.specs.Admission.{Rule}
 use Rattle.mp_pattern.specs.Step.{Stepped, stepped, exceeded}
 use Rattle.mp_rewrite.specs.Rewritable.{IsRewritable}
-use Rattle.mp_rewrite.specs.Made.{IsNext}
 use Rattle.mp_rewrite.specs.MarkView.{mark_of}
 use Rattle.mp_rewrite.specs.Known.{IsKnown}
 use Rattle.mp_rewrite.specs.declared.in_place.Marked.{Marked}
@@ -24,17 +23,21 @@ pub record IsHere (sig : Sig) (rules : List Rule) (m : Marked) : Type 0 where
   pub known : IsKnown sig rules (mark_of m.known) (tree m.term)
   pub nodes : m.nodes ≡ node_count (tree m.term)
 
--- the answer tells what the step that is made at a redex comes to; memory may run out
-abbrev pub IsMadeInPlace : Option Stepped → Result Marked Stop → Type 0
-IsMadeInPlace o (Ok m) = o ≡ Some (stepped (tree m.term))
-IsMadeInPlace o (Err (Exceeded e)) = o ≡ Some (exceeded e)
-IsMadeInPlace o (Err Memory) = Unit {0}
+-- the answer tells how large or how deep a term the step would make; memory may run out
+abbrev pub IsStopped : Option Stepped → Stop → Type 0
+IsStopped o (Exceeded e) = o ≡ Some (exceeded e)
+IsStopped o Memory = Unit {0}
+
+-- the answer tells what the step that is made at a redex comes to
+abbrev pub IsMade : Option Stepped → Result Marked Stop → Type 0
+IsMade o (Ok m) = o ≡ Some (stepped (tree m.term))
+IsMade o (Err stop) = IsStopped o stop
 
 -- the same of the next step of the term t, where there may be none
 abbrev pub IsTurn : Option Stepped → Marked → Result Turn Stop → Type 0
 IsTurn o before (Ok (Ended t)) = (o ≡ None) × (tree t ≡ tree before.term)
 IsTurn o before (Ok (Made m)) = o ≡ Some (stepped (tree m.term))
-IsTurn o before (Err stop) = IsNext o (Err stop)
+IsTurn o before (Err stop) = IsStopped o stop
 
 -- the term with a new one put in before it is normalised is too large or too deep, or the answer is its normal form;
 -- memory may run out

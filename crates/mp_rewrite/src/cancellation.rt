@@ -151,10 +151,7 @@ fn put_by<'a>(templates: &'a [Template], rest: &Name) -> Option<Option<&'a Name>
             if !is_variable(last, rest) {
                 return None;
             }
-            let Some(name) = symbol_of(one) else {
-                return None;
-            };
-            Some(Some(name))
+            Some(Some(symbol_of(one)?))
         }
         _ => None,
     }
@@ -176,19 +173,10 @@ pub(crate) fn cancellation_of(rule: &Rule) -> Option<Cancellation<'_>>
     if op.0 != made.0 {
         return None;
     }
-    let children = children.as_slice();
-    let Some((last, first)) = children.split_last() else {
-        return None;
-    };
-    let Some((rest, leaves)) = rest_of(last) else {
-        return None;
-    };
-    let Some(taken) = taken_by(first, rest) else {
-        return None;
-    };
-    let Some(put) = put_by(templates.as_slice(), rest) else {
-        return None;
-    };
+    let (last, first) = children.as_slice().split_last()?;
+    let (rest, leaves) = rest_of(last)?;
+    let taken = taken_by(first, rest)?;
+    let put = put_by(templates.as_slice(), rest)?;
     Some(Cancellation {
         op: *op,
         taken,

@@ -9,7 +9,6 @@ mod in_place;
 mod known;
 mod known_redex;
 mod laws;
-mod next;
 mod quiet;
 mod redex;
 mod rewrite;

@@ -6,7 +6,7 @@ ghost use Rattle.mp_rewrite.specs.Computed as computed;
 ghost use Rattle.mp_rewrite.specs.Rewritable.{AreRewriteRules, IsRewritable};
 
 use crate::fault::RewriteFault;
-use crate::next::next_step;
+use crate::turn::{Turn, begin, take_turn};
 use crate::turns::rewritten;
 use crate::valid::signature_is_valid;
 use mp_pattern::{Rules, plan_rules};
@@ -47,8 +47,10 @@ pub fn step(
 {
     signature_is_valid(sig);
     let planned = plan_rules(alloc, sig, rules.as_slice())?;
-    match next_step(alloc, sig, &planned, term) {
-        Ok(next) => Ok(next),
+    let here = begin(alloc, term)?;
+    match take_turn(alloc, sig, &planned, here) {
+        Ok(Turn::Made(next)) => Ok(Some(next.term)),
+        Ok(Turn::Ended(_)) => Ok(None),
         Err(stop) => Err(stop.after(0)),
     }
 }

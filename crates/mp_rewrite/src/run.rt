@@ -63,9 +63,7 @@ pub(crate) fn is_apart(sig: &Signature, op: OpId, pattern: &Pattern) -> bool
 fn pairing_of(rule: &Rule, op: OpId) -> Option<Cancellation<'_>>
     ensures { IfSome result (IsPairing op.0 (rule_tree rule.now)) }
 {
-    let Some(cancellation) = cancellation_of(rule) else {
-        return None;
-    };
+    let cancellation = cancellation_of(rule)?;
     if cancellation.op.0 != op.0 {
         return None;
     }

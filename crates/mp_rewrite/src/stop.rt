@@ -3,7 +3,8 @@ ghost use Rattle.std.specs.Prelude.{◌≡◌};
 ghost use Rattle.mp_rewrite.specs.Faults.{fault_after};
 
 use crate::fault::RewriteFault;
-use mp_term::Excess;
+use mp_subst::ApplyFault;
+use mp_term::{Excess, Memory};
 
 // Why a step isn't made.
 #[derive(Drop)]
@@ -23,6 +24,40 @@ impl Stop {
             Stop::Exceeded(Excess::TooLarge { nodes }) => RewriteFault::TooLarge { nodes, turns },
             Stop::Exceeded(Excess::TooDeep { depth }) => RewriteFault::TooDeep { depth, turns },
             Stop::Memory => RewriteFault::Memory,
+        }
+    }
+}
+
+impl From<Memory> for Stop {
+    ghost use Rattle.mp_rewrite.specs.declared.stop.Stop.TheVariants as stop;
+
+    ghost from_gives = { λ _ e. e ≡ stop.Memory };
+
+    fn from(_memory: Memory) -> Stop {
+        Stop::Memory
+    }
+}
+
+impl From<Excess> for Stop {
+    ghost use Rattle.mp_rewrite.specs.declared.stop.Stop.TheVariants as stop;
+
+    ghost from_gives = { λ excess e. e ≡ stop.Exceeded excess };
+
+    fn from(excess: Excess) -> Stop {
+        Stop::Exceeded(excess)
+    }
+}
+
+impl From<ApplyFault> for Stop {
+    ghost use Rattle.mp_rewrite.specs.Faults.{stop_of};
+
+    ghost from_gives = { λ fault e. e ≡ stop_of fault };
+
+    fn from(fault: ApplyFault) -> Stop {
+        match fault {
+            ApplyFault::TooLarge { nodes } => Stop::Exceeded(Excess::TooLarge { nodes }),
+            ApplyFault::TooDeep { depth } => Stop::Exceeded(Excess::TooDeep { depth }),
+            ApplyFault::Memory => Stop::Memory,
         }
     }
 }

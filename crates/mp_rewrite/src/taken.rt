@@ -10,7 +10,7 @@ ghost use Rattle.mp_rewrite.specs.Cancellation.{IsPairAt, HasNoPair, IsUnderAt, 
 ghost use Rattle.mp_rewrite.specs.Cancellation.{IsNoUnder, AreFirst, StandsNowhere, IsFound, IsOnly};
 
 use crate::cancellation::{Cancellation, Taken};
-use mp_term::{Name, OpId, Signature, Term};
+use mp_term::{Name, OpId, Signature, Term, has_head};
 
 // Whether something stands at a place, where that is sure.
 #[derive(Drop)]
@@ -84,16 +84,6 @@ fn only_argument(term: &Term, op: OpId) -> Option<&Term>
     args.get(0)
 }
 
-// Whether the term is an application of the operation.
-fn is_headed(term: &Term, op: OpId) -> bool
-    ensures { result ≡ has_head op.0 (tree term.now) }
-{
-    match term {
-        Term::Sym(_) => false,
-        Term::App(own, _) => op.0 == own.0,
-    }
-}
-
 // The places in order.
 fn both(place: usize, other: usize) -> Places
     ensures { IsBoth place other result }
@@ -121,7 +111,7 @@ fn under_at(op: OpId, inner: OpId, term: &Term, args: &[Term]) -> Found<usize>
     match only_argument(term, inner) {
         None => Found::Nowhere,
         Some(only) => {
-            if is_headed(only, op) {
+            if has_head(only, op) {
                 return Found::Unsure;
             }
             match args.binary_search(only) {

@@ -5,6 +5,7 @@ ghost use Rattle.mp_term.specs.Tree.{Tree};
 ghost use Rattle.mp_term.specs.View.{tree};
 ghost use Rattle.mp_term.specs.Size.{node_count, depth};
 ghost use Rattle.mp_term.specs.Excess.{excess};
+ghost use Rattle.mp_term.specs.Signature.{Sig};
 ghost use Rattle.mp_term.specs.Normal.{IsNormal};
 ghost use Rattle.mp_term.specs.Positions.{subterm};
 ghost use Rattle.mp_term.specs.Replaced.{replaced};
@@ -13,20 +14,23 @@ ghost use Rattle.mp_rewrite.specs.Computed as computed;
 ghost use Rattle.mp_pattern.specs.Planned.{IsPlanned, planned_rule, rule_plan};
 ghost use Rattle.mp_rewrite.specs.Rewritable.{AreRewriteRules, IsRewritable};
 ghost use Rattle.mp_rewrite.specs.Made.{IsReady, redex_of};
-ghost use Rattle.mp_rewrite.specs.Turn.{IsHere, IsMadeInPlace, IsNextTurn, IsPutIn, IsTurn};
+ghost use Rattle.mp_rewrite.specs.Turn.{IsHere, IsMade, IsNextTurn, IsPutIn, IsTurn};
 ghost use Rattle.mp_rewrite.specs.Within.{IsWhole, IsCounted};
 ghost use Rattle.mp_rewrite.specs.MarkView.{mark_of};
 ghost use Rattle.mp_rewrite.specs.Known.{IsKnown};
 
 use crate::cancelled::{first_cancelled, make};
 use crate::in_place::{Marked, put_in};
+use crate::known::Known;
 use crate::known_redex::{KnownRedex, first_known_redex};
 use crate::redex::Redex;
 use crate::stop::Stop;
 use crate::valid::signature_is_valid;
 use mp_pattern::PlannedRule;
-use mp_subst::{ApplyFault, apply};
-use mp_term::{Excess, MAX_DEPTH, MAX_TERM_NODES, Memory, Signature, Term, at, depth, node_count};
+use mp_subst::apply;
+use mp_term::{
+    Excess, MAX_DEPTH, MAX_TERM_NODES, Memory, Signature, Term, at, copy_term, depth, node_count,
+};
 use std::alloc::Global;
 
 // What comes of the next step.
@@ -36,6 +40,19 @@ pub(crate) enum Turn {
     Made(Marked),
     // The same term, of which no position is live.
     Ended(Term),
+}
+
+// Where rewriting of the term begins: a copy of it, of which nothing is known.
+pub(crate) fn begin(alloc: Global, term: &Term) -> Result<Marked, Memory>
+    ensures term { IfOk result (λ m. tree m.term ≡ tree term.now) }
+    ensures here { IfOk result (λ m. (sig : Sig) (rules : List Rule) → IsRewritable sig (tree term.now)
+        → IsHere sig rules m) }
+{
+    Ok(Marked {
+        term: copy_term(alloc, term)?,
+        known: Known::Nothing,
+        nodes: node_count(term),
+    })
 }
 
 // What is too large or too deep of a term of so many nodes in which a new term reaches so deep, where all else of it
@@ -106,16 +123,9 @@ fn put_in_within(
         → IsKnown sig.now rules (mark_of m.known) (tree m.term)) }
     ensures nodes { IfOk result (λ m. m.nodes ≡ node_count (tree m.term)) }
 {
-    match nodes_within(&into, 0, position, &new) {
-        Err(excess) => Err(Stop::Exceeded(excess)),
-        Ok(nodes) => {
-            let Marked { term, known, .. } = into;
-            match put_in(alloc, sig, Marked { term, known, nodes }, position, new) {
-                Ok(whole) => Ok(whole),
-                Err(Memory) => Err(Stop::Memory),
-            }
-        }
-    }
+    let nodes = nodes_within(&into, 0, position, &new)?;
+    let Marked { term, known, .. } = into;
+    Ok(put_in(alloc, sig, Marked { term, known, nodes }, position, new)?)
 }
 
 // The term after the step that is made at the redex (`step_at` of `specs/Computed.antt`).
@@ -128,7 +138,7 @@ fn step_in_place(
     requires term { IsRewritable sig.now (tree into.term) }
     requires nodes { into.nodes ≡ node_count (tree into.term) }
     requires ready { IsReady sig.now (tree into.term) (redex_of redex.now) }
-    ensures step { IsMadeInPlace (computed.step_at sig.now (tree into.term) (redex_of redex.now)) result }
+    ensures step { IsMade (computed.step_at sig.now (tree into.term) (redex_of redex.now)) result }
     ensures known { IfOk result (λ m. (rules : List Rule) → IsKnown sig.now rules (mark_of into.known) (tree into.term)
         → IsKnown sig.now rules (mark_of m.known) (tree m.term)) }
     ensures nodes { IfOk result (λ m. m.nodes ≡ node_count (tree m.term)) }
@@ -136,12 +146,8 @@ fn step_in_place(
     let Some(template) = &redex.found.rule.template else {
         unreachable!()
     };
-    match apply(alloc, sig, template, &redex.found.subst) {
-        Ok(new) => put_in_within(alloc, sig, into, &redex.position, new),
-        Err(ApplyFault::TooLarge { nodes }) => Err(Stop::Exceeded(Excess::TooLarge { nodes })),
-        Err(ApplyFault::TooDeep { depth }) => Err(Stop::Exceeded(Excess::TooDeep { depth })),
-        Err(ApplyFault::Memory) => Err(Stop::Memory),
-    }
+    let new = apply(alloc, sig, template, &redex.found.subst)?;
+    put_in_within(alloc, sig, into, &redex.position, new)
 }
 
 // The next step of the term (`next_step` of `specs/Computed.antt`), and the term itself where no position is live.
@@ -159,20 +165,15 @@ pub(crate) fn take_turn(
 {
     signature_is_valid(sig);
     if let Some(cancelled) = first_cancelled(sig, rules, &here.term) {
-        return match make(alloc, sig, here, &cancelled) {
-            Ok(next) => Ok(Turn::Made(next)),
-            Err(Memory) => Err(Stop::Memory),
-        };
+        let next = make(alloc, sig, here, &cancelled)?;
+        return Ok(Turn::Made(next));
     }
     let Marked { term, known, nodes } = here;
-    match first_known_redex(alloc, sig, rules, &term, known) {
-        Err(Memory) => Err(Stop::Memory),
-        Ok(None) => Ok(Turn::Ended(term)),
-        Ok(Some(found)) => {
-            let KnownRedex { redex, known } = found;
-            let into = Marked { term, known, nodes };
-            let next = step_in_place(alloc, sig, into, &redex)?;
-            Ok(Turn::Made(next))
-        }
-    }
+    let Some(found) = first_known_redex(alloc, sig, rules, &term, known)? else {
+        return Ok(Turn::Ended(term));
+    };
+    let KnownRedex { redex, known } = found;
+    let into = Marked { term, known, nodes };
+    let next = step_in_place(alloc, sig, into, &redex)?;
+    Ok(Turn::Made(next))
 }

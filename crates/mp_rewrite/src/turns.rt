@@ -9,14 +9,13 @@ ghost use Rattle.mp_rewrite.specs.Rewritable.{AreRewriteRules, IsRewritable};
 
 use crate::fault::RewriteFault;
 use crate::in_place::Marked;
-use crate::known::Known;
 use crate::known_redex::first_known_redex;
 use crate::rewrite::Rewritten;
 use crate::run::run_on;
-use crate::turn::{Turn, take_turn};
+use crate::turn::{Turn, begin, take_turn};
 use crate::valid::signature_is_valid;
 use mp_pattern::PlannedRule;
-use mp_term::{Signature, Term, copy_term, node_count};
+use mp_term::{Signature, Term};
 use std::alloc::Global;
 
 // The rewriting of the term with at most `max` steps (`rewriting` of `specs/Computed.antt`). A step takes about as long
@@ -35,11 +34,7 @@ pub(crate) fn rewritten(
     ensures { IsComputedRewriting (computed.rewriting sig.now (map planned_rule rules.now) max (tree term.now)) result }
 {
     signature_is_valid(sig);
-    let mut here = Marked {
-        term: copy_term(alloc, term)?,
-        known: Known::Nothing,
-        nodes: node_count(term),
-    };
+    let mut here = begin(alloc, term)?;
     let mut turns = 0;
     while turns < max {
         let run = run_on(alloc, sig, rules, here, max - turns)?;

@@ -23,7 +23,7 @@ returns-in-Err c = λ v h.
     let x = tree c.in-Some.only.now in
     let same = same-argument c.args.inner.0 (tree c.args.term.now) x v c.in-Some.ensures h in
     let ascends : Ascends tree_cmp (map tree xs) = ascends-from (map tree xs) c.requires in (
-      ap (has_head c.args.op.0) (sym same) ∙ sym c.is_headed.ensures ∙ c.if-is_headed.false,
+      ap (has_head c.args.op.0) (sym same) ∙ sym c.has_head.ensures ∙ c.if-has_head.false,
       ap (λ u. tally tree_cmp u (map tree xs)) (sym same) ∙ not-found tree xs c.in-Err.field-0 x
           (c.in-Err.ensures.position
           (searchable_from_sorted tree_cmp_total tree xs x (sorted-from_ascends tree xs ascends))),

@@ -1,6 +1,9 @@
 use Rattle.std.proofs.Common.{[], refl, arith}
 use Rattle.mp_term.specs.View.{tree}
+use Rattle.mp_term.specs.Replaced.{replaced}
+use Rattle.mp_rewrite.specs.Turn.{IsPutIn}
 use Rattle.mp_rewrite.specs.Within.{IsWhole}
+use Rattle.mp_rewrite.proofs.StepsInPlace.{of-err}
 use Rattle.mp_rewrite.proofs.turn.put_in_within.Goals as goal
 use Rattle.mp_rewrite.proofs.turn.put_in_within.Goals.{After-nodes_within}
 
@@ -15,19 +18,20 @@ whole c = record {
   shallow = c.requires.shallow;
 }
 
-pub returns-in-Err-clause-put : goal.returns-in-Err-clause-put
-returns-in-Err-clause-put c =
-    c.in-Err.ensures (tree c.args.into.term) [] (whole (goal.at.returns-in-Err-clause-put c).After-nodes_within)
+pub returns-in_err-nodes-clause-put : goal.returns-in_err-nodes-clause-put
+returns-in_err-nodes-clause-put c =
+    let t = tree c.args.into.term in
+    of-err (IsPutIn c.args.sig.now (replaced c.args.position.now (tree c.args.new) t)) _ _ c.from_residual.ensures.1
+    (c.in_err-nodes.ensures t [] (whole (goal.at.returns-in_err-nodes-clause-put c).After-nodes_within))
 
-pub returns-in-Ok-put_in-clause-put : goal.returns-in-Ok-put_in-clause-put
-returns-in-Ok-put_in-clause-put c = (
-  (c.in-Ok.ensures (tree c.args.into.term) []
-      (whole (goal.at.returns-in-Ok-put_in-clause-put c).After-nodes_within)).0,
-  c.in-Ok-put_in.ensures.term,
+pub returns-clause-put : goal.returns-clause-put
+returns-clause-put c = (
+  (c.in_ok-nodes.ensures (tree c.args.into.term) [] (whole (goal.at.returns-clause-put c).After-nodes_within)).0,
+  c.in_ok-put_in.ensures.term,
 )
 
-pub returns-in-Ok-put_in-clause-nodes : goal.returns-in-Ok-put_in-clause-nodes
-returns-in-Ok-put_in-clause-nodes c =
-    let counted = c.in-Ok.ensures (tree c.args.into.term) []
-    (whole (goal.at.returns-in-Ok-put_in-clause-nodes c).After-nodes_within) in
-    omega (arith, c.in-Ok-put_in.ensures.nodes 0 (omega (arith, counted.1)))
+pub returns-clause-nodes : goal.returns-clause-nodes
+returns-clause-nodes c =
+    let counted = c.in_ok-nodes.ensures (tree c.args.into.term) []
+    (whole (goal.at.returns-clause-nodes c).After-nodes_within) in
+    omega (arith, c.in_ok-put_in.ensures.nodes 0 (omega (arith, counted.1)))

@@ -9,21 +9,21 @@ use Rattle.mp_rewrite.specs.Known.{IsKnown}
 use Rattle.mp_rewrite.proofs.CancellationTurns.{cancelled-turn, cancelled-rewritable}
 use Rattle.mp_rewrite.proofs.turn.take_turn.Goals as goal
 
-pub returns-in-Ok-clause-turn : goal.returns-in-Ok-clause-turn
-returns-in-Ok-clause-turn c =
+pub returns-in-Some-clause-turn : goal.returns-in-Some-clause-turn
+returns-in-Some-clause-turn c =
     cancelled-turn c.args.sig.now (map planned_rule c.args.rules.now) (tree c.args.here.term) c.requires.here.rewritable
-    c.in-Some.cancelled c.in-Some.ensures (tree c.in-Ok.next.term) c.in-Ok.ensures.term
+    c.in-Some.cancelled c.in-Some.ensures (tree c.in_ok-next.next.term) c.in_ok-next.ensures.term
 
-pub returns-in-Ok-clause-here : goal.returns-in-Ok-clause-here
-returns-in-Ok-clause-here c =
+pub returns-in-Some-clause-here : goal.returns-in-Some-clause-here
+returns-in-Some-clause-here c =
     let sig = c.args.sig.now in
     let rules = map planned_rule c.args.rules.now in
     record {
       rewritable = cancelled-rewritable sig rules (tree c.args.here.term) c.requires.here.rewritable c.in-Some.cancelled
-          c.in-Some.ensures (tree c.in-Ok.next.term) c.in-Ok.ensures.term c.signature_is_valid.ensures
+          c.in-Some.ensures (tree c.in_ok-next.next.term) c.in_ok-next.ensures.term c.signature_is_valid.ensures
           c.requires.rules;
-      known = subst (λ m. IsKnown sig rules m (tree c.in-Ok.next.term)) (sym c.in-Ok.ensures.known) tt;
-      nodes = c.in-Ok.ensures.nodes c.requires.here.nodes;
+      known = subst (λ m. IsKnown sig rules m (tree c.in_ok-next.next.term)) (sym c.in_ok-next.ensures.known) tt;
+      nodes = c.in_ok-next.ensures.nodes c.requires.here.nodes;
     }
 
 pub step_in_place-requires-clause-ready : goal.step_in_place-requires-clause-ready
@@ -31,23 +31,23 @@ step_in_place-requires-clause-ready c =
     let sig = c.args.sig.now in
     let rules = map planned_rule c.args.rules.now in
     let t = tree c.args.here.term in
-    let first : first_redex sig rules t ≡ Some (redex_of c.in-Ok-Some.found.redex) =
-    sym c.in-Ok-Some.ensures.redex ∙ ap (option_map (λ r. redex_of r.redex)) c.in-Ok-Some.field-0-is in
+    let first : first_redex sig rules t ≡ Some (redex_of c.in-Some-2.found.redex) =
+    sym c.in_ok-found.ensures.redex ∙ ap (option_map (λ r. redex_of r.redex)) c.in-Some-2.is in
     IsReady-first_redex sig rules c.signature_is_valid.ensures c.requires.rules t c.requires.here.rewritable
-    (redex_of c.in-Ok-Some.found.redex) first
+    (redex_of c.in-Some-2.found.redex) first
 
-pub returns-in_ok-next-in-Ok-Some-clause-here : goal.returns-in_ok-next-in-Ok-Some-clause-here
-returns-in_ok-next-in-Ok-Some-clause-here c =
+pub returns-clause-here : goal.returns-clause-here
+returns-clause-here c =
     let sig = c.args.sig.now in
     let rules = map planned_rule c.args.rules.now in
     let t = tree c.args.here.term in
-    let x = redex_of c.in-Ok-Some.found.redex in
+    let x = redex_of c.in-Some-2.found.redex in
     let first : first_redex sig rules t ≡ Some x =
-    sym c.in-Ok-Some.ensures.redex ∙ ap (option_map (λ r. redex_of r.redex)) c.in-Ok-Some.field-0-is in
-    let next = c.in_ok-next-in-Ok-Some in
+    sym c.in_ok-found.ensures.redex ∙ ap (option_map (λ r. redex_of r.redex)) c.in-Some-2.is in
+    let next = c.in_ok-next-2 in
     record {
       rewritable = IsRewritable-first_redex sig rules c.signature_is_valid.ensures c.requires.rules t
           c.requires.here.rewritable x (tree next.next.term) first next.ensures.step;
-      known = next.ensures.known rules (rw c.in-Ok-Some.field-0-is at c.in-Ok-Some.ensures.known);
+      known = next.ensures.known rules (rw c.in-Some-2.is at c.in_ok-found.ensures.known);
       nodes = next.ensures.nodes;
     }

@@ -12,6 +12,18 @@ use Rattle.mp_rewrite.specs.Turn.{IsNextTurn, IsTurn}
 use Rattle.mp_rewrite.proofs.Steps.{is_some-next_step}
 use Rattle.mp_rewrite.proofs.turns.rewritten.Goals as goal
 
+pub loop-turns-init : goal.loop-turns-init
+loop-turns-init c =
+    let sig = c.args.sig.now in
+    let rules = map planned_rule c.args.rules.now in
+    let same : c.args.max - 0 ≡ c.args.max = omega arith in
+    record {
+      few = omega arith;
+      here = c.in_ok-here.ensures.here sig rules c.requires.term;
+      left = ap (rewriting_from sig rules (c.args.max - 0) 0) c.in_ok-here.ensures.term
+          ∙ ap (λ k. rewriting_from sig rules k 0 (tree c.args.term.now)) same;
+    }
+
 pub loop-turns-preserved-then-run-gt0 : goal.loop-turns-preserved-then-run-gt0
 loop-turns-preserved-then-run-gt0 c =
     let rules = map planned_rule c.args.rules.now in
