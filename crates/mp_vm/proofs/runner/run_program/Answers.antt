@@ -1,8 +1,5 @@
-use Rattle.std.proofs.Common.{◌∙◌, ap, subst, sym}
-use Rattle.mp_table.specs.Table.{subject_of}
-use Rattle.mp_walk.specs.Ranked.{pairs_of}
-use Rattle.mp_program.specs.ProgramView.{program_view}
-use Rattle.mp_vm.specs.ProgramList.{IsProgramList, IsProgramTable}
+use Rattle.std.proofs.Common.{subst, sym}
+use Rattle.mp_vm.specs.ProgramList.{IsProgramTable}
 use Rattle.mp_vm.proofs.runner.run_program.Goals as goal
 
 pub pairs-requires : goal.pairs-requires
