@@ -17,7 +17,7 @@ use Rattle.mp_build.specs.Build.{term_of}
 use Rattle.mp_text.specs.Subjects.{subjects_of}
 use Rattle.mp_text.specs.FileBuild.{rule_of, rules_of}
 use Rattle.mp_text.specs.Draft.{IsDraftOf}
-use Rattle.mp_text.proofs.FileSteps.{length-held_rules, length-held_subjects, rules_of-RuleOf, subjects_of-SubjectOf}
+use Rattle.mp_text.proofs.FileSteps.{rules_of-RuleOf, subjects_of-SubjectOf}
 use Rattle.mp_text.proofs.FileSteps.{file_over-declaration, file_over-RuleOf, file_over-SubjectOf, file_over-EditOf}
 use Rattle.mp_text.proofs.FileSteps.{edit_sets-push}
 use Rattle.mp_text.proofs.Statements.{rule_names-append, subject_names-append}
@@ -26,15 +26,6 @@ module _ (sig : Sig) (ss : List Statement) (d : Draft) (is : IsDraftOf sig ss d)
   -- its signature is that one
   pub draft_sig : d.file.sig ≡ sig
   draft_sig = ap (λ f. f.sig) is.file
-
-  -- as many rules are held as names of rules
-  pub draft_rule_count : length d.file.rules ≡ length d.rule_names
-  draft_rule_count = length-held_rules sig d.file.rules ss (ap (λ f. f.rules) is.file) ∙ ap length (sym is.rules)
-
-  -- as many subjects are held as names of subjects
-  pub draft_subject_count : length d.file.subjects ≡ length d.subject_names
-  draft_subject_count = length-held_subjects sig d.file.subjects ss (ap (λ f. f.subjects) is.file)
-      ∙ ap length (sym is.subjects)
 
   -- a declaration adds nothing
   pub draft-declaration : (s : Statement) → rules_of sig (s ∷ []) ≡ [] → subjects_of sig (s ∷ []) ≡ []

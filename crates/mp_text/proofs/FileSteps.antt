@@ -1,8 +1,7 @@
 -- The rules, subjects and edit statements of a file, statement by statement.
-use Rattle.std.proofs.Common.{◌≡◌, ℕ, List, [], ◌∷◌, ◌++◌, map, length, append-nil, refl}
+use Rattle.std.proofs.Common.{◌≡◌, ℕ, List, [], ◌∷◌, ◌++◌, map, append-nil, refl}
 use Rattle.std.proofs.Common.{append_assoc, sym, ap, ◌∙◌}
 use Rattle.std.specs.Prelude.{Option}
-use Rattle.std.proofs.lemmas.List.{length-map}
 use Rattle.mp_term.specs.Signature.{Sig}
 use Rattle.mp_term.specs.Tree as term
 use Rattle.mp_term.specs.Normal.{normal}
@@ -59,12 +58,6 @@ subjects_of-append sig (EditOf subject changes ∷ ss) b = subjects_of-append si
 
 -- ---- rules, statement by statement
 
--- as many rules are held as were given
-pub length-held_rules : (sig : Sig) (rules : List Rule) (ss : List Statement) → rules ≡ rules_of sig ss
-    → length rules ≡ length (rule_names ss)
-length-held_rules sig rules ss h = sym (length-map rules (λ r. r.name))
-    ∙ ap length (ap (map (λ r. r.name)) h ∙ names-rules_of sig ss)
-
 -- the rules with one rule more
 pub rules_of-RuleOf : (sig : Sig) (old new : List Rule) (r : Rule) (ss : List Statement) (name : Spot) (p : Tree)
     (x : Option Tree) (c : Option Condition)
@@ -75,12 +68,6 @@ rules_of-RuleOf sig old new r ss name p x c added e h =
     ∙ sym (rules_of-append sig ss (RuleOf name p x c ∷ []))
 
 -- ---- subjects, statement by statement
-
--- as many subjects are held as were given
-pub length-held_subjects : (sig : Sig) (subjects : List Subject) (ss : List Statement) → subjects ≡ subjects_of sig ss
-    → length subjects ≡ length (subject_names ss)
-length-held_subjects sig subjects ss h = sym (length-map subjects (λ s. s.name))
-    ∙ ap length (ap (map (λ s. s.name)) h ∙ names-subjects_of sig ss)
 
 -- the subjects with one subject more
 pub subjects_of-SubjectOf : (sig : Sig) (old new : List Subject) (word : List ℕ) (u : term.Tree) (ss : List Statement)

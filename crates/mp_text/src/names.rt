@@ -1,6 +1,6 @@
 //! The names of statements, each found by its bytes.
 
-ghost use Rattle.std.specs.Prelude.{◌≡◌, ◌++◌, ◌∷◌, [], not, position, bytes_eq, IfOk, IsTrue};
+ghost use Rattle.std.specs.Prelude.{◌≡◌, ◌++◌, ◌∷◌, [], not, length, position, bytes_eq, IfOk, IsTrue, IsFalse};
 ghost use Rattle.std.specs.List.{list_any};
 
 use indexmap::IndexSet;
@@ -42,6 +42,13 @@ impl<'a> TextNames<'a> {
         }
     }
 
+    /// How many names there are.
+    pub fn len(&self) -> usize
+        ensures { result ≡ length self.now }
+    {
+        self.names.len()
+    }
+
     /// The index of the name of these bytes, from 0. It is None exactly where the name isn't there. It takes no memory.
     pub fn index_of(&self, name: &[u8]) -> Option<usize>
         ensures { result ≡ position (bytes_eq name.now) self.now }
@@ -49,10 +56,12 @@ impl<'a> TextNames<'a> {
         self.names.get_index_of(name)
     }
 
-    /// Adds a name behind the others, or answers false where it is one of them.
+    /// Adds a name behind the others, or answers false where it is one of them, and leaves them as they were. `Memory`:
+    /// memory ran out.
     pub fn insert(&mut self, name: &'a [u8]) -> Result<bool, Memory>
         ensures new { IfOk result (λ is_new. is_new ≡ not (list_any (bytes_eq name.now) self.old)) }
         ensures names { IfOk result (λ is_new. IsTrue is_new → self.new ≡ self.old ++ name.now ∷ []) }
+        ensures kept { IfOk result (λ is_new. IsFalse is_new → self.new ≡ self.old) }
     {
         Ok(self.names.insert(name)?)
     }

@@ -109,13 +109,13 @@ pub(crate) struct Draft<'a> {
 pub(crate) fn add_statement_name<'a>(
     names: &mut TextNames<'a>,
     name: Word<'a>,
-    count: usize,
     most: usize,
     is_large: bool,
 ) -> Result<(), TextError>
-    ensures { count ≡ length names.old → Gives result (name_faults most names.old is_large (spot_of name.entry))
+    ensures { Gives result (name_faults most names.old is_large (spot_of name.entry))
         (λ _. names.new ≡ names.old ++ name.entry.text.now ∷ []) }
 {
+    let count = names.len();
     let is_new = names.insert(name.text)?;
     check_name(name, !is_new, count, most, is_large)?;
     Ok(())
@@ -139,8 +139,7 @@ fn add_rule<'a>(
         (if_tree condition.now) ∷ []) draft.new) }
 {
     let is_large = is_large_rule(alloc, pattern, template, condition)?;
-    let count = draft.file.rules.len();
-    add_statement_name(&mut draft.rule_names, name, count, MAX_RULES, is_large)?;
+    add_statement_name(&mut draft.rule_names, name, MAX_RULES, is_large)?;
     let rule = build_rule(alloc, &draft.file.sig, name, pattern, template, condition)?;
     draft.file.rules.push(rule)?;
     Ok(())
@@ -158,14 +157,7 @@ fn add_subject<'a>(
         (λ _. IsDraftOf sig (earlier ++ SubjectOf (spot_of name.entry) (expr_tree term.now) ∷ []) draft.new) }
 {
     let is_large = is_large_term(term);
-    let count = draft.file.subjects.len();
-    add_statement_name(
-        &mut draft.subject_names,
-        name,
-        count,
-        MAX_SUBJECTS,
-        is_large,
-    )?;
+    add_statement_name(&mut draft.subject_names, name, MAX_SUBJECTS, is_large)?;
     let term = normal_term(alloc, &draft.file.sig, term)?;
     let name = new_name(alloc, name)?;
     draft.file.subjects.push(Subject { name, term })?;

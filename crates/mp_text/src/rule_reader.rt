@@ -92,8 +92,7 @@ fn add_built_rule<'a>(
         draft.new) }
 {
     let is_large = has_large_result(template, condition);
-    let count = draft.file.rules.len();
-    add_statement_name(&mut draft.rule_names, name, count, MAX_RULES, is_large)?;
+    add_statement_name(&mut draft.rule_names, name, MAX_RULES, is_large)?;
     let pattern = normal_built_pattern(alloc, &draft.file.sig, pattern)?;
     let (template, condition) = results_behind(
         alloc,

@@ -84,8 +84,7 @@ pub(crate) fn add_term<'a>(
         → Gives result (name_faults MAX_SUBJECTS (subject_names earlier) false (spot_of name.entry))
         (λ _. IsDraftOf sig (earlier ++ SubjectOf (spot_of name.entry) e ∷ []) draft.new) }
 {
-    let count = draft.file.subjects.len();
-    add_statement_name(&mut draft.subject_names, name, count, MAX_SUBJECTS, false)?;
+    add_statement_name(&mut draft.subject_names, name, MAX_SUBJECTS, false)?;
     let term = normal_built(alloc, &draft.file.sig, term)?;
     let name = new_name(alloc, name)?;
     draft.file.subjects.push(Subject { name, term })?;

@@ -13,17 +13,17 @@ held : (is_new : Bool) (name : List ℕ) (names : List (List ℕ)) → is_new �
 held is_new name names e = ap not e ∙ not-not _ ∙ is_among-list_any name names
 
 pub returns-in_err-check_name : goal.returns-in_err-check_name
-returns-in_err-check_name c = λ count.
+returns-in_err-check_name c =
     let p = err_from_is_err_and c.from_residual-in_err-check_name.result
     c.from_residual-in_err-check_name.ensures.1 in
     let names = c.args.names.now in
     rw (p.1, p.2)
     (c.in_err-check_name.ensures.first names
-    (held c.in_ok-is_new.is_new c.args.name.text.now names c.in_ok-is_new.ensures.new) count)
+    (held c.in_ok-is_new.is_new c.args.name.text.now names c.in_ok-is_new.ensures.new) c.len-count.ensures)
 
 pub returns : goal.returns
-returns c = λ count.
+returns c =
     let names = c.args.names.now in
     let none = c.in_ok-check_name.ensures.first names
-    (held c.in_ok-is_new.is_new c.args.name.text.now names c.in_ok-is_new.ensures.new) count in
+    (held c.in_ok-is_new.is_new c.args.name.text.now names c.in_ok-is_new.ensures.new) c.len-count.ensures in
     (none.0, c.in_ok-is_new.ensures.names (sym (not-not _) ∙ ap not c.in_ok-check_name.ensures.new))

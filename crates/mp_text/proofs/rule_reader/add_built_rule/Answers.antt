@@ -4,7 +4,7 @@ use Rattle.mp_parser.specs.View.{spot_of, arrow_tree, if_tree}
 use Rattle.mp_build.specs.Checks.{loose_faults}
 use Rattle.mp_build.proofs.Fails.{fails-along, fails-front, fails-behind, none-append}
 use Rattle.mp_build.proofs.SoundLaws.{holds_ops-pattern_of, defaults-pattern_of}
-use Rattle.mp_text.proofs.Draft.{draft_sig, draft_rule_count, draft-rule}
+use Rattle.mp_text.proofs.Draft.{draft_sig, draft-rule}
 use Rattle.mp_text.proofs.RuleReaderLaws.{is_large_rule-whole, rule_faults-whole}
 use Rattle.mp_text.proofs.rule_reader.add_built_rule.Goals as goal
 use Rattle.mp_term.proofs.ListLaws.{both-empty}
@@ -22,20 +22,18 @@ normal_built_pattern-requires-clause-defaults c =
 pub returns-in_err-add_statement_name : goal.returns-in_err-add_statement_name
 returns-in_err-add_statement_name c = λ sig earlier e d whole.
     let p = err_from_is_err_and c.from_residual.result c.from_residual.ensures.1 in
-    let count = c.len-count.ensures ∙ draft_rule_count sig earlier c.args.draft.now d in
     let large = c.has_large_result-is_large.ensures
     ∙ sym (is_large_rule-whole sig e _ _ whole (arrow_tree c.args.template.now) (if_tree c.args.condition.now)) in
     rw (p.1, p.2) (fails-front c.in_err-add_statement_name.field-0.0 _ _
-    (rw (d.rules, large) at (c.in_err-add_statement_name.ensures count)))
+    (rw (d.rules, large) at c.in_err-add_statement_name.ensures))
 
 pub returns-in_err-template : goal.returns-in_err-template
 returns-in_err-template c = λ sig earlier e d whole.
     let p = err_from_is_err_and c.from_residual-in_err-template.result c.from_residual-in_err-template.ensures.1 in
     let x = arrow_tree c.args.template.now in
     let cond = if_tree c.args.condition.now in
-    let count = c.len-count.ensures ∙ draft_rule_count sig earlier c.args.draft.now d in
     let large = c.has_large_result-is_large.ensures ∙ sym (is_large_rule-whole sig e _ _ whole x cond) in
-    let none = (c.in_ok-add_statement_name.ensures count).0 in
+    let none = c.in_ok-add_statement_name.ensures.0 in
     rw (p.1, p.2) (fails-behind c.in_err-template.field-0.0 _ _ (rw (d.rules, large) at none)
     (fails-along c.in_err-template.field-0.0 _ _ (sym (rule_faults-whole sig e _ _ whole x cond))
     (rw (draft_sig sig earlier c.args.draft.now d) at c.in_err-template.ensures)))
@@ -44,9 +42,8 @@ pub returns : goal.returns
 returns c = λ sig earlier e d whole.
     let x = arrow_tree c.args.template.now in
     let cond = if_tree c.args.condition.now in
-    let count = c.len-count.ensures ∙ draft_rule_count sig earlier c.args.draft.now d in
     let large = c.has_large_result-is_large.ensures ∙ sym (is_large_rule-whole sig e _ _ whole x cond) in
-    let named = c.in_ok-add_statement_name.ensures count in
+    let named = c.in_ok-add_statement_name.ensures in
     let normal = rw (draft_sig sig earlier c.args.draft.now d) at c.in_ok-pattern.ensures.1 in
     let results = rw (draft_sig sig earlier c.args.draft.now d) at c.in_ok-template.ensures in (
       none-append _ _ (rw (d.rules, large) at named.0) ∙ rule_faults-whole sig e _ _ whole x cond ∙ results.0,

@@ -4,14 +4,13 @@ use Rattle.mp_term.specs.Normal.{normal}
 use Rattle.mp_parser.specs.View.{spot_of}
 use Rattle.mp_pattern.specs.declared.limits.TheConstants.{MAX_SUBJECTS}
 use Rattle.mp_build.proofs.SoundLaws.{named-by, well_formed-term_of}
-use Rattle.mp_text.proofs.Draft.{draft_sig, draft_subject_count, draft-subject}
+use Rattle.mp_text.proofs.Draft.{draft_sig, draft-subject}
 use Rattle.mp_text.proofs.subject.add_term.Goals as goal
 
 pub returns-in_err-add_statement_name : goal.returns-in_err-add_statement_name
 returns-in_err-add_statement_name c = λ sig earlier e d same.
     let p = err_from_is_err_and c.from_residual.result c.from_residual.ensures.1 in
-    let count = c.len-count.ensures ∙ draft_subject_count sig earlier c.args.draft.now d in
-    rw (p.1, p.2) (rw d.subjects at (c.in_err-add_statement_name.ensures count))
+    rw (p.1, p.2) (rw d.subjects at c.in_err-add_statement_name.ensures)
 
 pub normal_built-requires : goal.normal_built-requires
 normal_built-requires c = rw c.requires.2
@@ -19,8 +18,7 @@ normal_built-requires c = rw c.requires.2
 
 pub returns : goal.returns
 returns c = λ sig earlier e d same.
-    let count = c.len-count.ensures ∙ draft_subject_count sig earlier c.args.draft.now d in
-    let named = c.in_ok-add_statement_name.ensures count in
+    let named = c.in_ok-add_statement_name.ensures in
     let built = rw (draft_sig sig earlier c.args.draft.now d) at c.in_ok-term.ensures.1 in (
       rw d.subjects at named.0,
       draft-subject sig earlier c.args.draft.now d (spot_of c.args.name) e _ _ _ _ c.in_ok-push.ensures.ok

@@ -1,6 +1,7 @@
-use Rattle.std.proofs.Common.{◌≡◌, ◌++◌, ◌∷◌, [], false, map, refl, sym, ap, ◌∙◌}
+use Rattle.std.proofs.Common.{◌≡◌, ◌++◌, ◌∷◌, [], false, true, map, refl, sym, ap, ◌∙◌}
 use Rattle.std.specs.Prelude.{not, is_some, bytes_eq}
 use Rattle.std.specs.List.{list_any}
+use Rattle.std.proofs.Math.Bool.{not-not}
 use Rattle.std.proofs.lemmas.Bool.{not-true}
 use Rattle.mp_term.proofs.SignatureLaws.{position-map, is_some-position, map-insert_key}
 use Rattle.mp_text.proofs.names.TextNames.insert.Goals as goal
@@ -23,3 +24,11 @@ returns-clause-names c = λ new.
     ∙ is_some-position (λ k. bytes_eq n k.now) keys ∙ not-true _ (sym c.in_ok-insert.ensures.added ∙ new) in
     map-insert_key (λ k. k.now) keys c.insert.new.self.keys c.args.name n refl absent c.in_ok-insert.ensures.keys
     ∙ ap (λ ns. ns ++ n ∷ []) c.self.view_is
+
+pub returns-clause-kept : goal.returns-clause-kept
+returns-clause-kept c = λ old.
+    let keys = c.self.inside.names.keys in
+    let there : list_any (λ k. bytes_eq c.args.name.now k.now) keys ≡ true =
+    sym (not-not _) ∙ ap not (sym c.in_ok-insert.ensures.added ∙ old) in
+    let same : c.insert.new.self.keys ≡ keys = rw there at c.in_ok-insert.ensures.keys in
+    ap (map (λ k. k.now)) same ∙ c.self.view_is
