@@ -2,7 +2,7 @@
 //!
 //! They are runs of the command over files in memory, and over devices that fail; nets, with what they find on
 //! subjects, how many nodes they read and the rules that they refuse; the tree of what rules begin with alike, with its
-//! states and the walk over it; and the match programs of rules, with the lines of their texts.
+//! states and the walk over it; the match programs of rules, with the lines of their texts; and single steps of terms.
 #![tactic(auto)]
 
 #[cfg(test)]
@@ -33,6 +33,8 @@ mod ran;
 mod runs;
 #[cfg(test)]
 mod states;
+#[cfg(test)]
+mod steps;
 #[cfg(test)]
 mod texts;
 #[cfg(test)]
