@@ -12,12 +12,13 @@ use Rattle.mp_pattern.specs.Size.{all_pattern_nodes}
 use Rattle.mp_pattern.specs.Variables.{variables}
 use Rattle.mp_ac.specs.declared.comm_plan.CommPlan.{CommPlan}
 
--- the operation of an application, and how many nodes there are below it
+-- the operation of an application
 abbrev pub root_op : Pattern → Option ℕ
 root_op (app_pattern g ps) = Some g
 root_op (symbol_pattern n) = None
 root_op (wild_pattern w x) = None
 
+-- how many nodes there are below the root
 abbrev pub nodes_below : Pattern → ℕ
 nodes_below (app_pattern g ps) = all_pattern_nodes ps
 nodes_below (symbol_pattern n) = 0

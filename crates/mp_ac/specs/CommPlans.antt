@@ -35,6 +35,7 @@ AreLeads x _ _ = ⊥
 abbrev pub AreTails : Sig → List CommPlan → Type 0
 AreTails sig = AllByRecursion (λ c. IsCommPlanOf sig c.plan.pattern c)
 
+-- the plans that are kept are plans over the signature
 abbrev pub ArePlans : Sig → CommPlans → Type 0
 ArePlans sig x = AreTails sig x.tails.items
 

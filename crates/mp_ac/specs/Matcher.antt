@@ -38,6 +38,7 @@ asked_from sig plan vars table owes = record {
   owes = owes;
 }
 
+-- what a matcher is asked for
 abbrev pub asked_of : CommMatcher → Asked
 asked_of m = asked_from m.sig.now m.plan m.vars.items m.table.now false
 

@@ -41,7 +41,8 @@ pub enum TextKind {
     /// The wildcard, or the name in `kind`: no kind has that name.
     UnknownKind,
     /// The name before a bracket, or the bracket of operands with a sign between them: the operation doesn't allow the
-    /// number of arguments. The position of an edit: an operation doesn't allow the number of arguments behind it.
+    /// number of arguments. The position of an edit: an operation doesn't allow the number of arguments that it has
+    /// after all edits of the statement.
     Arity,
     /// The wildcard: an earlier one of the pattern has the same name and another class, kind, count or default.
     KindClash,

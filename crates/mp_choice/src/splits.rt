@@ -21,7 +21,9 @@ use std::marker::Model;
 /// its `least` may have no length.
 #[derive(Clone, Copy)]
 pub struct Part {
+    /// The least length of the part.
     pub least: u32,
+    /// The greatest length of the part, if it has one.
     pub most: Option<u32>,
 }
 

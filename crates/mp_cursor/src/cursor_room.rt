@@ -42,8 +42,9 @@ impl Model for CursorRoom {
 }
 
 impl CursorRoom {
-    /// A room for a pattern of so many nodes and variables, and for subjects of at most `width` nodes. `Memory` comes
-    /// where there is no memory for it, and then nothing is left.
+    /// A room for a pattern of so many nodes and variables, and for subjects of at most `width` nodes. They are at most
+    /// `MAX_ROOM_NODES`, `MAX_ROOM_VARS` and `MAX_ROOM_WIDTH`. `Memory` comes where there is no memory for it, and then
+    /// nothing is left.
     pub fn new(alloc: Global, nodes: u32, vars: u32, width: u32) -> Result<CursorRoom, Memory>
         requires nodes { nodes ≤ MAX_ROOM_NODES }
         requires vars { vars ≤ MAX_ROOM_VARS }

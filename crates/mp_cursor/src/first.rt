@@ -23,7 +23,8 @@ use mp_table::Table;
 use mp_term::{Memory, Signature, Term};
 use std::alloc::Global;
 
-/// A room for the plan of a pattern and the subject of a table. `Memory` comes where there is no memory for it.
+/// A room for so many nodes and variables as the plan of a pattern has, and as wide as the table's subject has nodes,
+/// which are at most `MAX_TERM_NODES`. `Memory` comes where there is no memory for it, and then nothing is left.
 pub fn room_for(alloc: Global, plan: &Plan, table: &Table) -> Result<CursorRoom, Memory>
     requires { node_count (subject_of table.now) ≤ MAX_TERM_NODES }
     ensures nodes { IfOk result (λ r. r.nodes ≡ length plan.now.nodes) }
@@ -48,8 +49,8 @@ fn is_direct(sig: &Signature, rule: &Rule) -> bool
 
 /// The first substitution of the one-list, which has the least take table of all that the rule admits on the subject,
 /// and None exactly where the rule admits nothing there (`one_list` of mp_theory's `specs/OneList.antt`, `IsOneList` of
-/// mp_pattern's `specs/Lists.antt`). The rule is planned, and the subject is normal and has at most `MAX_TERM_NODES`
-/// nodes. `Memory`: memory ran out, and nothing is left.
+/// mp_pattern's `specs/Lists.antt`). The rule is planned (`IsPlanned` of mp_pattern's `specs/Planned.antt`), and the
+/// subject is normal and has at most `MAX_TERM_NODES` nodes. `Memory`: memory ran out, and nothing is left.
 pub fn first_subst(
     alloc: Global,
     sig: &Signature,

@@ -16,8 +16,8 @@ pub struct Memory;
 
 /// Files by name, of which one at a time is read from its first byte to its end.
 ///
-/// The words of its contracts stand in `specs/Devices.antt`. A count is a number of 64 bits that
-/// never falls, and one that stands at its greatest number when a call ends counts as risen.
+/// The words of its contracts stand in `specs/Devices.antt`. The counts of calls and of faults are numbers of 64 bits
+/// that never fall, and one that stands at its greatest number when a call ends counts as risen.
 pub trait Shelf {
     /// The files, where the shelf tells them.
     ghost files: { Self → Option Files };

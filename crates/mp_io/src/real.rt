@@ -94,8 +94,8 @@ impl<'a, R: Files + Input> Shelf for RealShelf<'a, R> {
 
     /// Opens the file of this path, or standard input for `-`.
     ///
-    /// `Failed`: exactly where the system doesn't open the file, which is a fault. Standard input never
-    /// fails to start.
+    /// `Failed` comes only with a fault, which is counted.
+    // It is a fault where the system doesn't open the file. Standard input never fails to start.
     fn start(&mut self, name: &str) -> Result<(), Failed>
         ensures started { self.new.is_started ≡ is_ok result }
         ensures rest { OnOk result (HasRead None name.now [] None) }
@@ -138,7 +138,8 @@ impl<'a, R: Files + Input> Shelf for RealShelf<'a, R> {
 
     /// Reads once from the file that is open.
     ///
-    /// `Failed`: exactly where the system doesn't read, which is a fault.
+    /// `Failed` comes only with a fault, which is counted.
+    // It is a fault where the system doesn't read.
     fn read(&mut self, room: &mut [u8]) -> Result<usize, Failed>
         requires { self.old.is_started ≡ true }
         ensures started { self.new.is_started ≡ true }
@@ -221,8 +222,8 @@ impl<W: Write + Drop> Sink for RealSink<W> {
 
     /// Writes a front of the piece and flushes the writer.
     ///
-    /// `Failed`: exactly where the piece has a byte, and the writer takes none of it or isn't flushed.
-    /// That is a fault.
+    /// `Failed` comes only with a fault, which is counted, and never of a piece without bytes.
+    // It is a fault where the piece has a byte, and the writer takes none of it or isn't flushed.
     fn write(&mut self, piece: &[u8]) -> Result<usize, Failed>
         ensures bound { WritesAtMost result piece.now }
         ensures some { IfOk result (λ count. 0 < length piece.now → 0 < count) }

@@ -69,7 +69,7 @@ impl Room {
         true
     }
 
-    /// How many bytes the whole lines have.
+    // Up to where the bytes are written when the room is full: to the end of the last line, if there is one.
     pub(crate) fn lines_len(&self) -> usize
         ensures { result ≤ length self.now }
     {

@@ -107,8 +107,7 @@ pub fn put<K: Sink>(sink: &mut K, piece: &[u8]) -> Result<(), Failed>
     Ok(())
 }
 
-/// Appends the parts to the sink, one after another, in one write where they have at most 4,096 bytes together and the
-/// sink takes them at once. It takes no memory.
+/// Appends the parts to the sink, one after another. It takes no memory.
 ///
 /// `Failed`: the sink's count of faults rose, and a front of the joined parts was appended. The
 /// contract is `Prints` of `specs/Printing.antt`, over the text `joined`.

@@ -8,12 +8,13 @@ ghost use Rattle.mp_io.specs.Writing.{HasPut, Puts};
 use crate::room::Room;
 use crate::{Failed, Sink, put};
 
-/// Text on its way to a sink: it is gathered in a room of 4,096 bytes, and written when the room is full, at a `flush`
-/// and at the end. A full room is written to the end of its last line, so that each line that fits into the room is
-/// part of one write.
+/// Text on its way to a sink: it is gathered in a room of fixed size, and written when the room is full, at a `flush`
+/// and at the end. In how many writes no contract says.
 ///
-/// No call but `finish` fails: after a write that failed nothing more is written, and `finish`, which has to be called,
-/// says so. No call takes memory. The words of the contracts stand in `specs/Writing.antt`.
+/// No call but `finish` fails: that a write failed is what `finish` says, which has to be called. No call takes memory.
+/// The words of the contracts stand in `specs/Writing.antt`.
+// The room has 4,096 bytes. A full one is written to the end of its last line, so that a write ends with a line where a
+// line is put in pieces of which only the last has a newline. After a write that failed nothing more is written.
 pub struct Writer<'a, K> {
     sink: &'a mut K,
     room: Room,
@@ -33,7 +34,7 @@ impl<'a, K: Sink> Writer<'a, K> {
         }
     }
 
-    /// Puts the text behind the text so far. Together they are written at once where they fit into the room.
+    /// Puts the text behind the text so far.
     pub fn put(&mut self, text: &[u8])
         ensures { Puts K.Sink self.old self.new text.now }
     {
@@ -42,7 +43,7 @@ impl<'a, K: Sink> Writer<'a, K> {
         }
     }
 
-    /// Puts the byte behind the text so far. Together they are written at once where they fit into the room.
+    /// Puts the byte behind the text so far.
     pub fn put_byte(&mut self, byte: u8)
         ensures { Puts K.Sink self.old self.new (byte ∷ []) }
     {

@@ -18,6 +18,7 @@ module _ (sig : Sig) (t : Tree) where
   tested r = if of_kinds sig r.pattern t then option_and_then (λ s. if meets sig r.condition s then Some s else None)
       (solve sig [] (takings None r.pattern t)) else None
 
+  -- the substitution that a rule admits, if there is one
   abbrev pub admitted : Rule → Option Subst
   admitted r = if shape r.pattern t then tested r else None
 

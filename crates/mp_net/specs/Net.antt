@@ -87,10 +87,11 @@ abbrev pub rules_at : List (List Open) → Option ℕ → List Open
 rules_at rules None = []
 rules_at rules (Some q) = held_or [] (slice_get rules q)
 
--- and where it leads
+-- a turn that leads nowhere
 abbrev pub nowhere : Turn
 nowhere = record { edges = []; other = None }
 
+-- where a state leads: nowhere where there is no state
 abbrev pub turn_at : List Turn → Option ℕ → Turn
 turn_at turns None = nowhere
 turn_at turns (Some q) = held_or nowhere (slice_get turns q)

@@ -59,6 +59,7 @@ fn push_all_marks<'a>(out: &mut Vec<Mark<'a>>, patterns: &'a [Pattern]) -> Resul
     }
 }
 
+// Puts a mark behind the others.
 fn push_mark<'a>(out: &mut Vec<Mark<'a>>, mark: Mark<'a>) -> Result<(), Memory>
     ensures { OnOk result (map mark_of out.new.items ≡ map mark_of out.old.items ++ mark_of mark.entry ∷ []) }
 {

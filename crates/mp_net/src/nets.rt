@@ -184,7 +184,8 @@ impl<'a> Nets<'a> {
 
     /// All that the rules admit on the probe's subject, each pair once, in order (`IsAllList` of mp_pattern's
     /// `specs/Lists.antt`). The subject must be normal over the signature of the nets. For each group it reads at most
-    /// as many nodes as the subject has. `Memory` comes where there is no room for the pairs.
+    /// as many nodes as the subject has. `Memory` comes where there is no room for the pairs: the probe has its table
+    /// then, and may have read.
     pub fn matches(&self, alloc: Global, probe: &mut Probe<'_>) -> Result<Pairs, Memory>
         requires normal { IsNormal self.now.sig (subject_of probe.old.table) }
         ensures pairs { IfOk result (IsAllList self.now.sig self.now.rules (subject_of probe.old.table)) }

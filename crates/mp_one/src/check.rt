@@ -135,11 +135,12 @@ fn goes_on_from<'a>(
 /// One that is too short or too long, that marks as collapsed what doesn't collapse, that has a term which the subject
 /// doesn't have there, or that leaves out a variable whose default isn't normal, fits nothing.
 ///
-/// `Memory`: memory ran out, and nothing is left. The call searches nothing: it takes the entries in turn, up
-/// to the first that can't stand where it stands. At each node it goes a few times over the entry's terms, over what is
-/// left of the arguments there, and over the values so far. So it takes at most some multiple of as many steps as there
-/// are nodes times terms, of the table and of the subject's longest list of arguments, where to compare two terms is
-/// one step; a tuple that meets a multiset is sorted besides.
+/// `Memory`: memory ran out, and nothing is left.
+// The call searches nothing: it takes the entries in turn, up to the first that can't stand where it stands. At each
+// node it goes a few times over the entry's terms, over what is left of the arguments there, and over the values so
+// far. So it takes at most some multiple of as many steps as there are nodes times terms, of the table and of the
+// subject's longest list of arguments, where to compare two terms is one step; a tuple that meets a multiset is sorted
+// besides.
 pub fn check_takes(
     alloc: Global,
     sig: &Signature,

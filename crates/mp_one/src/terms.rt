@@ -42,6 +42,7 @@ pub fn same_references(terms: &[&Term], others: &[&Term]) -> bool
     terms.cmp(&others).is_eq()
 }
 
+// The terms, ascending.
 fn in_order<'a>(alloc: Global, terms: &[&'a Term]) -> Result<Vec<&'a Term>, Memory>
     ensures { IfOk result (λ v. trees_of v.items ≡ sorted tree_cmp (trees_of terms.now)) }
 {

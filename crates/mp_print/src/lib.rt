@@ -1,8 +1,7 @@
 //! Values to text: the printed text of terms, patterns, templates, conditions, edits, substitutions and signatures.
 //!
-//! A call `write_..` writes a text to a sink, in one write where the text has at most 4,096 bytes. A call `put_..` puts
-//! it to a writer, behind what was put before, so that a line of several texts is one write. A call `printed_..` gives
-//! it in memory.
+//! A call `write_..` writes a text to a sink. A call `put_..` puts it to a writer, behind what was put before, so that
+//! a line can be put of several texts. A call `printed_..` gives it in memory.
 #![tactic(auto)]
 
 mod cond_printer;

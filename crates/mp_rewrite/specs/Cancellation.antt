@@ -44,11 +44,12 @@ AreApart _ x y = same_name x y ≡ false
 abbrev pub taking_rest : Bool → Wildcard
 taking_rest leaves = if leaves then plus else star
 
--- the templates of what is put in, and the trees
+-- the templates of what is put in
 abbrev pub putting : Option (Bor Name) → List Template
 putting None = []
 putting (Some n) = symbol_template n.now ∷ []
 
+-- the trees of what is put in
 abbrev pub put_terms : Option (Bor Name) → List Tree
 put_terms None = []
 put_terms (Some n) = symbol n.now ∷ []

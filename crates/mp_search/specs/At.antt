@@ -71,10 +71,11 @@ site_of p node left = record {
   owes = p.owes;
 }
 
--- what the choices of node k are drawn from, and what it takes
+-- what the choices of node k are drawn from
 abbrev pub draws_at : List Level → ℕ → Option (Source × List Rank)
 draws_at ls k = option_map draws_of (slice_get ls k)
 
+-- what the choices of node k are drawn from, and what it takes
 abbrev pub own_at : List Level → ℕ → Option ((Source × List Rank) × (List Rank × Bool))
 own_at ls k = option_map (λ l. (draws_of l, take_of l)) (slice_get ls k)
 
@@ -100,10 +101,11 @@ pub record IsDrawn (q : Query) (p : Place) (ls : List Level) (k : ℕ) (s : Subs
   pub ascending : IsStrictlySortedBy entry_cmp (drawn_at q p ls k)
   pub pool : HasPool q ls k
 
--- the items from node k on, over the substitution, and those behind an entry of node k
+-- the items from node k on, over the substitution
 abbrev pub items_from : Query → ℕ → List Level → Subst → List Item
 items_from q k ls s = items q.sig.now (length ls - k) (place_after q (take k ls)) s
 
+-- the items behind an entry of node k, over the substitution
 abbrev pub items_with : Query → ℕ → List Level → Subst → Entry → List Item
 items_with q k ls s e = items_by q.sig.now (length ls - suc k) (place_after q (take k ls)) s e
 

@@ -24,10 +24,11 @@ use Rattle.mp_search.specs.Reading.{table_of}
 abbrev pub above : Option OpId → Option ℕ
 above f = option_map (λ g. g.0) f
 
--- what the node of the level takes, and what is left behind it
+-- what the node of the level takes
 abbrev pub take_at : Query → List Level → ℕ → List Tree
 take_at q ls k = elim (slice_get ls k) [ None ↦ [] | Some l ↦ terms_at q.table.now l.take.items.items ]
 
+-- what is left behind it
 abbrev pub rest_at : Query → List Level → ℕ → List Tree
 rest_at q ls k = elim (slice_get ls k) [ None ↦ [] | Some l ↦ terms_at q.table.now l.rest.items.items ]
 
@@ -87,6 +88,7 @@ IsBelow k (Within' f p s) = LeftBelow k f.left × IsBelow k s
 abbrev pub PlaceBelow : ℕ → Place → Type 0
 PlaceBelow k p = LeftBelow k p.left × IsBelow k p.outer.now
 
+-- those of what comes next are
 abbrev pub NextBelow : ℕ → Next → Type 0
 NextBelow k Ended = ⊤
 NextBelow k Refused = ⊤

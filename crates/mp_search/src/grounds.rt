@@ -28,6 +28,7 @@ pub enum Ground {
 /// One for each node of a pattern, in preorder, in room that is made before.
 #[derive(Drop)]
 pub struct Grounds {
+    /// What is known of each node, in preorder.
     pub list: Room<Ground>,
 }
 

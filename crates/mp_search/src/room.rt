@@ -6,7 +6,9 @@ use std::alloc::{AllocError, Global};
 /// A list with room for so many items, which never changes.
 #[derive(Drop)]
 pub struct Room<T> {
+    /// The list, in order.
     pub items: Vec<T>,
+    /// How many items there is room for.
     pub room: usize,
     ghost within: { length items.items ≤ room },
     ghost reserved: { room ≤ vec_capacity items },
@@ -22,7 +24,8 @@ fn overwrite<T: Copy>(list: &mut [T], items: &[T])
 }
 
 impl<T: Copy> Room<T> {
-    /// An empty list with that room. All memory that it ever needs is taken here.
+    /// An empty list with room for so many items. All memory that it ever needs is taken here: `AllocError` comes where
+    /// there is none for it.
     pub fn new(alloc: Global, room: usize) -> Result<Room<T>, AllocError>
         ensures empty { IfOk result (λ r. r.items.items ≡ []) }
         ensures room { IfOk result (λ r. r.room ≡ room) }

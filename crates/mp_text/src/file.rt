@@ -76,7 +76,7 @@ impl Subjects {
         self.items.len()
     }
 
-    /// The subject at an index, from 0. It is None exactly where the number isn't below the length.
+    /// The subject at an index, from 0. It is None exactly where the index isn't below the length.
     pub fn get(&self, index: usize) -> Option<&Subject>
         ensures { slice_get self.now index ≡ option_map (λ s. subject_tree s.now) result }
     {
