@@ -1,12 +1,12 @@
 //! What a template becomes under a substitution.
-ghost use Rattle.std.specs.Prelude.{◌≡◌, ◌∷◌, [], None, IfOk, IfErr};
+ghost use Rattle.std.specs.Prelude.{◌≡◌, ◌∷◌, [], None, Err, IfSome, IfOk, IfErr};
 ghost use Rattle.mp_term.specs.Tree.{Tree};
 ghost use Rattle.mp_term.specs.View.{tree};
 ghost use Rattle.mp_term.specs.Excess.{excess};
 ghost use Rattle.mp_pattern.specs.TemplateView.{template_tree};
 ghost use Rattle.mp_pattern.specs.Instance.{IsInstance, IsApplied};
 ghost use Rattle.mp_subst.specs.View.{subst_of};
-ghost use Rattle.mp_subst.specs.Applied.{IsExceeded};
+ghost use Rattle.mp_subst.specs.Applied.{fault_of, IsExceeded};
 
 use crate::apply_fault::ApplyFault;
 use crate::instance::instance;
@@ -21,8 +21,8 @@ use std::alloc::Global;
 /// substitution, which may have whatever operations with however many arguments.
 ///
 /// `TooLarge` comes where the instance has more nodes before it is normalised than a term may have, and else `TooDeep`
-/// where it is deeper (`excess` of mp_term's `specs/Excess.antt`): that is found before anything is built. `Memory`
-/// comes where there is no room for the term.
+/// where it is deeper (`excess` of mp_term's `specs/Excess.antt`): that is found before anything is built, so `Memory`
+/// never comes of such an instance. It comes where there is no room for the term.
 pub fn apply(
     alloc: Global,
     sig: &Signature,
@@ -34,6 +34,8 @@ pub fn apply(
         (λ t. IsApplied sig.now (template_tree template.now) (subst_of subst.now) (tree t)) }
     ensures fits { IfOk result (λ _. (t : Tree) →
         IsInstance (template_tree template.now) (subst_of subst.now) t → excess (t ∷ []) ≡ None) }
+    ensures exceeded { (t : Tree) → IsInstance (template_tree template.now) (subst_of subst.now) t
+        → IfSome (excess (t ∷ [])) (λ e. result ≡ Err (fault_of e)) }
     ensures fault { IfErr result (IsExceeded (template_tree template.now) (subst_of subst.now)) }
 {
     if let Some(excess) = instances_excess(template, subst) {
