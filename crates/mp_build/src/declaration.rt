@@ -17,7 +17,8 @@ use crate::fault::{TextError, TextKind, error_at};
 use crate::flags::{FlagSort, has_bad_flags, is_said, sign_spot};
 use mp_syntax::{Flag, InfixSign, Statement, Word};
 use mp_term::{
-    MAX_ARITY, MAX_KIND_SYMBOLS, MAX_KINDS, MAX_OPS, NameFault, Names, OpDecl, Sign, Signature,
+    MAX_ARITY, MAX_KIND_SYMBOLS, MAX_KINDS, MAX_OPS, NameFault, Names, OpDecl, SigFault, Sign,
+    Signature,
 };
 use std::alloc::Global;
 
@@ -155,7 +156,8 @@ fn declare_op(
     let decl = new_decl(alloc, name, least, is_open, flags)?;
     match sig.add_op(decl) {
         Ok(_) => Ok(()),
-        Err(_) => Err(TextError::Memory),
+        Err(SigFault::Memory) => Err(TextError::Memory),
+        Err(_) => unreachable!(),
     }
 }
 
@@ -199,7 +201,8 @@ fn declare_kind(
     let name = new_name(alloc, name)?;
     match sig.add_kind(name, members) {
         Ok(_) => Ok(()),
-        Err(_) => Err(TextError::Memory),
+        Err(SigFault::Memory) => Err(TextError::Memory),
+        Err(_) => unreachable!(),
     }
 }
 

@@ -11,7 +11,7 @@ use crate::entries::TokenEntries;
 use crate::fault::TokenFault;
 use crate::token::Token;
 use mp_table::Rank;
-use mp_term::{MAX_NAME_BYTES, Memory, Name};
+use mp_term::{MAX_NAME_BYTES, Memory, Name, NameFault};
 use std::alloc::Global;
 
 // Where in a token a reader stands: in a name, before an entry, behind the digits of a number of an entry, behind a
@@ -107,7 +107,8 @@ fn name_of(alloc: Global, bytes: &[u8]) -> Result<Name, TokenFault>
 {
     match Name::new(alloc, bytes) {
         Ok(name) => Ok(name),
-        Err(_) => Err(TokenFault::Memory),
+        Err(NameFault::Memory) => Err(TokenFault::Memory),
+        Err(NameFault::Spelling) => unreachable!(),
     }
 }
 
