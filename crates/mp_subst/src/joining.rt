@@ -1,5 +1,5 @@
 //! Which of two values by ranks in a table is the value of both uses of a variable.
-ghost use Rattle.std.specs.Prelude.{◌≡◌, ◌↔◌, map, count_by, IsTrue, if◌then◌else◌};
+ghost use Rattle.std.specs.Prelude.{◌≡◌, ◌↔◌, IsTrue};
 ghost use Rattle.std.specs.Ordering.{eq_by_cmp};
 ghost use Rattle.std.specs.Cmp.Lexicographic.{slice_cmp};
 ghost use Rattle.mp_term.specs.Order.{tree_cmp};
@@ -11,38 +11,11 @@ ghost use Rattle.mp_subst.specs.Bound.{bound_of, value_in, IsBoundIn};
 ghost use Rattle.mp_subst.specs.Choice.{chosen};
 
 use crate::bound::Bound;
-use crate::merging::{Choice, old_if};
+use crate::merging::{Choice, new_if, old_if};
+use crate::multiset::same_items;
 use mp_pattern::Form;
 use mp_table::{Rank, Table};
 use mp_term::OpId;
-
-// How often the rank stands in the list.
-fn occurrences(rank: &Rank, ranks: &[Rank]) -> usize
-    ensures { result ≡ count_by (eq_by_cmp rank_cmp rank.now) ranks.now }
-{
-    let mut count: usize = 0;
-    for other in ranks {
-        if rank.0.cmp(&other.0).is_eq() {
-            count += 1;
-        }
-    }
-    count
-}
-
-// Whether the lists have the same ranks, each as often.
-fn same_multiset(ranks: &[Rank], others: &[Rank]) -> bool
-    ensures { result ≡ eq_by_cmp (slice_cmp rank_cmp) (sorted rank_cmp ranks.now) (sorted rank_cmp others.now) }
-{
-    if ranks.len() != others.len() {
-        return false;
-    }
-    for rank in ranks {
-        if occurrences(rank, ranks) != occurrences(rank, others) {
-            return false;
-        }
-    }
-    true
-}
 
 /// Whether ranks stand for the same terms, each as often: whether the sorted lists of these terms are equal
 /// (`same_terms` of mp_pattern's `specs/Value.antt`). The table has the ranks. It takes no memory.
@@ -54,7 +27,7 @@ pub fn same_rank_multiset(table: &Table, ranks: &[Rank], others: &[Rank]) -> boo
 {
     // The length is asked for what holds of every table.
     let _ = table.len();
-    same_multiset(ranks, others)
+    same_items(ranks, others)
 }
 
 // Whether the forms are equal.
@@ -92,13 +65,6 @@ fn is_same(old: &Bound<'_>, new: &Bound<'_>) -> bool
     are_same(old.ranks, new.ranks)
 }
 
-// The second one or neither.
-fn new_if(same: bool) -> Choice
-    ensures { result ≡ (if same then Choice.New else Choice.Neither) }
-{
-    if same { Choice::New } else { Choice::Neither }
-}
-
 // Which of the values is the value of both uses, in each table that they are of.
 pub(crate) fn join(old: &Bound<'_>, new: &Bound<'_>) -> Choice
     ensures { (t : plain_table) → IsTable t → IsBoundIn t (bound_of old.now) → IsBoundIn t (bound_of new.now)
@@ -106,8 +72,8 @@ pub(crate) fn join(old: &Bound<'_>, new: &Bound<'_>) -> Choice
         ≡ merge (value_in t (bound_of old.now)) (value_in t (bound_of new.now)) }
 {
     match (old.form, new.form) {
-        (Form::Seq, Form::Bag) => old_if(same_multiset(old.ranks, new.ranks)),
-        (Form::Bag, Form::Seq) => new_if(same_multiset(old.ranks, new.ranks)),
+        (Form::Seq, Form::Bag) => old_if(same_items(old.ranks, new.ranks)),
+        (Form::Bag, Form::Seq) => new_if(same_items(old.ranks, new.ranks)),
         _ => old_if(is_same(old, new)),
     }
 }

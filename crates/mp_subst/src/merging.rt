@@ -23,6 +23,13 @@ pub(crate) fn old_if(same: bool) -> Choice
     if same { Choice::Old } else { Choice::Neither }
 }
 
+// The second one or neither.
+pub(crate) fn new_if(same: bool) -> Choice
+    ensures { result ≡ (if same then Choice.New else Choice.Neither) }
+{
+    if same { Choice::New } else { Choice::Neither }
+}
+
 // Which of the values is the value of both uses.
 fn choose(old: &Value, new: &Value) -> Choice
     ensures { chosen (value_of old.now) (value_of new.now) result ≡ merge (value_of old.now) (value_of new.now) }
@@ -32,11 +39,7 @@ fn choose(old: &Value, new: &Value) -> Choice
             old_if(same_multiset(terms.as_slice(), others.as_slice()))
         }
         (Value::Bag(terms), Value::Seq(others)) => {
-            if same_multiset(terms.as_slice(), others.as_slice()) {
-                Choice::New
-            } else {
-                Choice::Neither
-            }
+            new_if(same_multiset(terms.as_slice(), others.as_slice()))
         }
         _ => old_if(compare_value(old, new).is_eq()),
     }

@@ -13,13 +13,13 @@ use Rattle.mp_subst.proofs.joining.join.Goals as goal
 pub returns-in-Seq-Bag : goal.returns-in-Seq-Bag
 returns-in-Seq-Bag c t h p q =
     join-seq_bag t h (bound_of c.args.old.now) (bound_of c.args.new.now) p q c.old_if.result
-    (c.old_if.ensures ∙ ap (λ b. if b then Old else Neither) c.same_multiset.ensures) (ap form c.in-Seq-Bag.is-0)
+    (c.old_if.ensures ∙ ap (λ b. if b then Old else Neither) c.same_items.ensures) (ap form c.in-Seq-Bag.is-0)
     (ap form c.in-Seq-Bag.is-1)
 
 pub returns-in-Bag-Seq : goal.returns-in-Bag-Seq
 returns-in-Bag-Seq c t h p q =
     join-bag_seq t h (bound_of c.args.old.now) (bound_of c.args.new.now) p q c.new_if.result
-    (c.new_if.ensures ∙ ap (λ b. if b then New else Neither) c.same_multiset-in-Bag-Seq.ensures)
+    (c.new_if.ensures ∙ ap (λ b. if b then New else Neither) c.same_items-in-Bag-Seq.ensures)
     (ap form c.in-Bag-Seq.is-0) (ap form c.in-Bag-Seq.is-1)
 
 pub returns-in_default : goal.returns-in_default
