@@ -13,3 +13,4 @@ pub mod SubBagClasses
 pub mod EquationLaws
 pub mod EquationLoops
 pub mod EquationListing
+pub mod Moves
