@@ -41,11 +41,7 @@ fn is_same_form(old: Form, new: Form) -> bool
 fn is_same_wrap(old: Option<OpId>, new: Option<OpId>) -> bool
     ensures { IsTrue result ↔ (old ≡ new) }
 {
-    match (old, new) {
-        (None, None) => true,
-        (Some(f), Some(g)) => f.0 == g.0,
-        _ => false,
-    }
+    old == new
 }
 
 // Whether the ranks are equal.
