@@ -1,6 +1,7 @@
 -- The terms, patterns, templates and faults of applications and infix expressions, whose arguments the code holds in a
 -- slice.
-use Rattle.std.proofs.Common.{◌≡◌, true, false, List, [], ◌∷◌, ◌++◌, map, length, refl, ap, ◌∙◌}
+use Rattle.std.proofs.Common.{◌≡◌, ◌<◌, true, false, List, [], ◌∷◌, ◌++◌, map, length, get_or, refl, ap, subst, ◌∙◌}
+use Rattle.std.proofs.Common.{arith}
 use Rattle.std.specs.Borrow.{Bor}
 use Rattle.std.specs.Prelude.{Option, Some, None, is_some}
 use Rattle.std.proofs.lemmas.List.{length-map}
@@ -24,6 +25,10 @@ use Rattle.mp_build.specs.Wildcards.{PatternWildcard}
 use Rattle.mp_build.specs.Checks.{op_named, op_signed, head_faults, arity_faults, sign_faults, term_faults}
 use Rattle.mp_build.specs.Checks.{term_operand_faults, all_term_faults, pattern_faults, pattern_operand_faults}
 use Rattle.mp_build.specs.Checks.{all_pattern_faults}
+use Rattle.mp_build.specs.declared.fault.TextFault.{TextFault}
+use Rattle.mp_build.specs.declared.fault.TextError.{TextError}
+use Rattle.mp_build.specs.Answers.{Fails}
+use Rattle.mp_build.proofs.Fails.{fails-front}
 
 -- an operation that isn't there
 pub none-unknown : (o : Option OpDecl) → false ≡ is_some o → o ≡ None
@@ -141,6 +146,19 @@ module _ (sig : Sig) where
       ap (λ l. arity_faults (allows_patterns (map (pattern_of sig) l)) place (op_signed sig sign.text)
       ++ pattern_operand_faults sig before (sign_faults sign (op_signed sig sign.text)) (trees (map expr_tree es)))
       (tree_list-trees (map expr_tree es))
+
+  -- a sign that no operation has is a fault behind those of the first operand
+  pub term_faults-unknown : (place : Place) (sign : Spot) (ts : Trees) → op_signed sig sign.text ≡ None
+      → term_faults sig (InfixOf place sign ts) ≡ term_operand_faults sig (sign_faults sign None) ts
+  term_faults-unknown place sign ts h = rw h refl
+
+  -- where the first operand fails, the operands do
+  pub fails-first_operand : (at_sign : List TextFault) (es : List Expr) (first : Expr) (e : TextError) → 0 < length es
+      → first ≡ get_or es 0 first → Fails e (term_faults sig (expr_tree first))
+      → Fails e (term_operand_faults sig at_sign (trees (map expr_tree es)))
+  fails-first_operand at_sign [] first e some is h = absurd (omega (arith, some))
+  fails-first_operand at_sign (x ∷ es) first e some is h = fails-front e (term_faults sig (expr_tree x)) _
+      (subst (λ y. Fails e (term_faults sig (expr_tree y))) is h)
 
   -- a sign that an operation has is no fault between operands
   pub term_operand_faults-known : (sign : Spot) (o : Option OpDecl) (ts : Trees) → true ≡ is_some o

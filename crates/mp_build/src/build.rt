@@ -14,8 +14,7 @@ ghost use Rattle.mp_build.specs.Wildcards.{pattern_wildcards, all_pattern_wildca
 ghost use Rattle.mp_build.specs.WildcardView.{wildcard_view};
 ghost use Rattle.mp_build.specs.Checks.{fault_if, kind_unknown, term_wildcard_faults, loose_faults};
 ghost use Rattle.mp_build.specs.Checks.{whole_pattern_faults, symbol_faults, sign_faults, term_faults};
-ghost use Rattle.mp_build.specs.Checks.{term_operand_faults, all_term_faults, pattern_faults, pattern_operand_faults};
-ghost use Rattle.mp_build.specs.Checks.{all_pattern_faults};
+ghost use Rattle.mp_build.specs.Checks.{all_term_faults, pattern_faults, pattern_operand_faults, all_pattern_faults};
 
 use crate::arguments::{Arguments, head_op, sign_op};
 use crate::extent::{count_of, counted_shape, marked_shape};
@@ -138,32 +137,17 @@ fn infix_term(
         (λ t. tree t ≡ term_of sig.now (InfixOf place (spot_of_sign sign.entry) (trees (map expr_tree operands.now)))) }
 {
     match sign_op(sig, place, sign, Arguments::Terms(operands))? {
-        None => Err(unknown_term_sign(alloc, sig, sign, operands)),
+        None => {
+            if let [first, ..] = operands {
+                build_term(alloc, sig, first)?;
+            }
+            Err(error_at(TextKind::UnknownOp, sign.place))
+        }
         Some(op) => {
             let terms = build_terms(alloc, sig, operands)?;
             Ok(Term::App(op, terms))
         }
     }
-}
-
-/// The first fault of operands between which a sign stands that no operation has.
-#[cycle(build_term)]
-fn unknown_term_sign(
-    alloc: Global,
-    sig: &Signature,
-    sign: InfixSign<'_>,
-    operands: &[Expr<'_>],
-) -> TextError
-    ensures { Fails result
-        (term_operand_faults sig.now (sign_faults (spot_of_sign sign.entry) None)
-        (trees (map expr_tree operands.now))) }
-{
-    if let [first, ..] = operands {
-        if let Err(error) = build_term(alloc, sig, first) {
-            return error;
-        }
-    }
-    error_at(TextKind::UnknownOp, sign.place)
 }
 
 /// The terms of expressions, or their first fault.

@@ -1,18 +1,18 @@
-use Rattle.std.proofs.Common.{◌≡◌, ◌+◌, map, arith, ◌∙◌, sym, ap, subst, refl}
+use Rattle.std.proofs.Common.{◌≡◌, ◌+◌, map, None, arith, ◌∙◌, sym, ap, subst, refl}
 use Rattle.std.proofs.lemmas.Result.{err_from_is_err_and}
 use Rattle.mp_parser.specs.Syntax.{Tree, trees}
 use Rattle.mp_term.specs.View.{tree}
 use Rattle.mp_parser.specs.View.{spot_of_sign, expr_tree}
 use Rattle.mp_parser.proofs.Trees.{expr_tree-Infix}
 use Rattle.mp_build.specs.Answers.{Gives}
-use Rattle.mp_build.specs.Checks.{nodes, all_nodes, op_signed, sign_faults, term_faults, term_operand_faults}
+use Rattle.mp_build.specs.Checks.{nodes, all_nodes, op_signed, sign_faults, term_faults}
 use Rattle.mp_build.specs.Build.{head_number, sign_number, term_of}
 use Rattle.mp_term.specs.Tree as term
 use Rattle.mp_build.proofs.Applied.{nodes-Apply, nodes-Infix, nodes-item}
 use Rattle.mp_build.proofs.Fails.{fails-front, fails-behind, fails-along, none-append}
 use Rattle.mp_build.proofs.Built.{none-unknown, term_of-Apply, term_faults-Apply, term_of-operands}
-use Rattle.mp_build.proofs.Built.{term_faults-operands}
-use Rattle.mp_build.proofs.Built.{term_operand_faults-known}
+use Rattle.mp_build.proofs.Built.{term_faults-operands, term_faults-unknown, term_operand_faults-known}
+use Rattle.mp_build.proofs.Built.{fails-first_operand}
 use Rattle.mp_build.proofs.build.+build_term.Goals as goal
 
 pub build_term-returns-in_err-op-in-Apply : goal.build_term-returns-in_err-op-in-Apply
@@ -81,17 +81,19 @@ infix_term-returns-in_err-sign_op t c =
     (sym (term_faults-operands c.args.sig.now c.args.place (spot_of_sign c.args.sign) c.args.operands.now))
     (fails-front e _ _ c.in_err-sign_op.ensures))
 
-pub infix_term-returns-in-None : goal.infix_term-returns-in-None
-infix_term-returns-in-None t c =
-    let e = c.unknown_term_sign.result in
+pub infix_term-returns-in_err-build_term-in-None : goal.infix_term-returns-in_err-build_term-in-None
+infix_term-returns-in_err-build_term-in-None t c =
+    let p = err_from_is_err_and c.from_residual-in_err-build_term-in-None.result
+    c.from_residual-in_err-build_term-in-None.ensures.1 in
+    let e = c.in_err-build_term-in-None.field-0.0 in
     let sig = c.args.sig.now in
     let sign = spot_of_sign c.args.sign in
+    let operands = trees (map expr_tree c.args.operands.now) in
     let none = none-unknown (op_signed sig sign.text) (rw c.in-None.is at c.in_ok-sign_op.ensures.1.1) in
-    fails-along e _ _ (sym (term_faults-operands sig c.args.place sign c.args.operands.now))
-    (fails-behind e _ _ c.in_ok-sign_op.ensures.0
-    (fails-along e _ _
-    (ap (λ o. term_operand_faults sig (sign_faults sign o) (trees (map expr_tree c.args.operands.now))) (sym none))
-    c.unknown_term_sign.ensures))
+    rw (p.1, p.2)
+    (fails-along e _ _ (sym (term_faults-unknown sig c.args.place sign operands none))
+    (fails-first_operand sig (sign_faults sign None) c.args.operands.now c.first-item.result e (omega arith)
+    c.first-item.is c.in_err-build_term-in-None.ensures))
 
 pub infix_term-returns-in_err-terms-in-Some : goal.infix_term-returns-in_err-terms-in-Some
 infix_term-returns-in_err-terms-in-Some t c =

@@ -21,8 +21,5 @@ decreases-build_term l = 3 * nodes (expr_tree l.expr.now)
 abbrev pub decreases-infix_term : goal.decreases-infix_term
 decreases-infix_term l = 3 * all_nodes (trees (map expr_tree l.operands.now)) + 2
 
-abbrev pub decreases-unknown_term_sign : goal.decreases-unknown_term_sign
-decreases-unknown_term_sign l = 3 * all_nodes (trees (map expr_tree l.operands.now)) + 1
-
 abbrev pub decreases-build_terms : goal.decreases-build_terms
 decreases-build_terms l = 3 * all_nodes (trees (map expr_tree l.exprs.now)) + 1
