@@ -1,7 +1,7 @@
 -- The terms, patterns, templates and faults of applications and infix expressions, whose arguments the code holds in a
 -- slice.
-use Rattle.std.proofs.Common.{◌≡◌, ◌<◌, true, false, List, [], ◌∷◌, ◌++◌, map, length, get_or, refl, ap, subst, ◌∙◌}
-use Rattle.std.proofs.Common.{arith}
+use Rattle.std.proofs.Common.{◌≡◌, ◌<◌, true, false, List, [], ◌∷◌, ◌++◌, map, length, get_or, refl, ap, sym, ◌∙◌}
+use Rattle.std.proofs.Common.{arith, subst}
 use Rattle.std.specs.Borrow.{Bor}
 use Rattle.std.specs.Prelude.{Option, Some, None, is_some}
 use Rattle.std.proofs.lemmas.List.{length-map}
@@ -28,12 +28,23 @@ use Rattle.mp_build.specs.Checks.{all_pattern_faults}
 use Rattle.mp_build.specs.declared.fault.TextFault.{TextFault}
 use Rattle.mp_build.specs.declared.fault.TextError.{TextError}
 use Rattle.mp_build.specs.Answers.{Fails}
-use Rattle.mp_build.proofs.Fails.{fails-front}
+use Rattle.mp_build.proofs.Fails.{fails-front, fails-along}
 
 -- an operation that isn't there
 pub none-unknown : (o : Option OpDecl) → false ≡ is_some o → o ≡ None
 none-unknown None h = refl
 none-unknown (Some d) h = cc
+
+-- where the first operand fails, the operands do: its faults stand before all others
+pub fails-first_operand : (own : Tree → List TextFault) (others : Tree → Trees → List TextFault)
+    (all : Trees → List TextFault) → ((t : Tree) (ts : Trees) → all (more_trees t ts) ≡ own t ++ others t ts)
+    → (es : List Expr) (first : Expr) (e : TextError) → 0 < length es → first ≡ get_or es 0 first
+    → Fails e (own (expr_tree first)) → Fails e (all (trees (map expr_tree es)))
+fails-first_operand own others all parts [] first e some is h = absurd (omega (arith, some))
+fails-first_operand own others all parts (x ∷ es) first e some is h =
+    let ts = trees (map expr_tree es) in
+    fails-along e _ _ (sym (parts (expr_tree x) ts))
+    (fails-front e (own (expr_tree x)) (others (expr_tree x) ts) (subst (λ y. Fails e (own (expr_tree y))) is h))
 
 module _ (sig : Sig) where
   -- the terms of a list of expressions
@@ -152,13 +163,11 @@ module _ (sig : Sig) where
       → term_faults sig (InfixOf place sign ts) ≡ term_operand_faults sig (sign_faults sign None) ts
   term_faults-unknown place sign ts h = rw h refl
 
-  -- where the first operand fails, the operands do
-  pub fails-first_operand : (at_sign : List TextFault) (es : List Expr) (first : Expr) (e : TextError) → 0 < length es
-      → first ≡ get_or es 0 first → Fails e (term_faults sig (expr_tree first))
-      → Fails e (term_operand_faults sig at_sign (trees (map expr_tree es)))
-  fails-first_operand at_sign [] first e some is h = absurd (omega (arith, some))
-  fails-first_operand at_sign (x ∷ es) first e some is h = fails-front e (term_faults sig (expr_tree x)) _
-      (subst (λ y. Fails e (term_faults sig (expr_tree y))) is h)
+  -- the same in a pattern
+  pub pattern_faults-unknown : (before : List PatternWildcard) (place : Place) (sign : Spot) (ts : Trees)
+      → op_signed sig sign.text ≡ None
+      → pattern_faults sig before (InfixOf place sign ts) ≡ pattern_operand_faults sig before (sign_faults sign None) ts
+  pattern_faults-unknown before place sign ts h = rw h refl
 
   -- a sign that an operation has is no fault between operands
   pub term_operand_faults-known : (sign : Spot) (o : Option OpDecl) (ts : Trees) → true ≡ is_some o

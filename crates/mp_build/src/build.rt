@@ -1,6 +1,6 @@
 //! Makes terms and patterns of expressions, and checks them on the way.
 
-ghost use Rattle.std.specs.Prelude.{◌≡◌, [], ◌++◌, true, map, None};
+ghost use Rattle.std.specs.Prelude.{◌≡◌, [], ◌++◌, true, map};
 ghost use Rattle.mp_term.specs.Signature.{well_formed};
 ghost use Rattle.mp_term.specs.View.{tree};
 ghost use Rattle.mp_term.specs.Normal.{normal};
@@ -13,8 +13,8 @@ ghost use Rattle.mp_build.specs.Build.{kind_shape, variable_of, term_of, pattern
 ghost use Rattle.mp_build.specs.Wildcards.{pattern_wildcards, all_pattern_wildcards};
 ghost use Rattle.mp_build.specs.WildcardView.{wildcard_view};
 ghost use Rattle.mp_build.specs.Checks.{fault_if, kind_unknown, term_wildcard_faults, loose_faults};
-ghost use Rattle.mp_build.specs.Checks.{whole_pattern_faults, symbol_faults, sign_faults, term_faults};
-ghost use Rattle.mp_build.specs.Checks.{all_term_faults, pattern_faults, pattern_operand_faults, all_pattern_faults};
+ghost use Rattle.mp_build.specs.Checks.{whole_pattern_faults, symbol_faults, term_faults, all_term_faults};
+ghost use Rattle.mp_build.specs.Checks.{pattern_faults, all_pattern_faults};
 
 use crate::arguments::{Arguments, head_op, sign_op};
 use crate::extent::{count_of, counted_shape, marked_shape};
@@ -229,33 +229,17 @@ fn infix_pattern<'a>(
         (trees (map expr_tree operands.now)))) }
 {
     match sign_op(sig, place, sign, Arguments::Patterns(operands))? {
-        None => Err(unknown_pattern_sign(alloc, sig, sign, operands, before)),
+        None => {
+            if let [first, ..] = operands {
+                build_pattern(alloc, sig, first, before)?;
+            }
+            Err(error_at(TextKind::UnknownOp, sign.place))
+        }
         Some(op) => {
             let patterns = build_patterns(alloc, sig, operands, before)?;
             Ok(Pattern::App(op, patterns))
         }
     }
-}
-
-/// The first fault of operands behind these wildcards, between which a sign stands that no operation has.
-#[cycle(build_pattern)]
-fn unknown_pattern_sign<'a>(
-    alloc: Global,
-    sig: &Signature,
-    sign: InfixSign<'a>,
-    operands: &[Expr<'a>],
-    before: &mut Vec<PatternWildcard<'a>>,
-) -> TextError
-    ensures { Fails result
-        (pattern_operand_faults sig.now (map wildcard_view before.old.items)
-        (sign_faults (spot_of_sign sign.entry) None) (trees (map expr_tree operands.now))) }
-{
-    if let [first, ..] = operands {
-        if let Err(error) = build_pattern(alloc, sig, first, before) {
-            return error;
-        }
-    }
-    error_at(TextKind::UnknownOp, sign.place)
 }
 
 /// The patterns of expressions behind these wildcards, or their first fault.

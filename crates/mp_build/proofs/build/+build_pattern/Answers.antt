@@ -1,4 +1,4 @@
-use Rattle.std.proofs.Common.{◌≡◌, ◌+◌, ◌++◌, map, arith, ◌∙◌, sym, ap, subst, refl}
+use Rattle.std.proofs.Common.{◌≡◌, ◌+◌, ◌++◌, map, None, arith, ◌∙◌, sym, ap, subst, refl}
 use Rattle.std.proofs.lemmas.Result.{err_from_is_err_and}
 use Rattle.mp_parser.specs.Syntax.{Tree, trees}
 use Rattle.mp_pattern.specs.View.{pattern_tree}
@@ -8,12 +8,14 @@ use Rattle.mp_build.specs.Wildcards.{pattern_wildcards}
 use Rattle.mp_parser.proofs.Trees.{expr_tree-Infix}
 use Rattle.mp_build.specs.Answers.{Gives}
 use Rattle.mp_build.specs.Checks.{nodes, all_nodes, op_signed, sign_faults, pattern_faults, pattern_operand_faults}
+use Rattle.mp_build.specs.Checks.{all_pattern_faults}
 use Rattle.mp_build.specs.Build.{head_number, sign_number, pattern_of}
 use Rattle.mp_pattern.specs.PatternTree as pattern
 use Rattle.mp_build.proofs.Applied.{nodes-Apply, nodes-Infix, nodes-item, pattern_wildcards-Apply}
 use Rattle.mp_build.proofs.Fails.{fails-front, fails-behind, fails-along, none-append}
 use Rattle.mp_build.proofs.Built.{none-unknown, pattern_of-Apply, pattern_faults-Apply, pattern_of-operands}
-use Rattle.mp_build.proofs.Built.{pattern_faults-operands, pattern_operand_faults-known}
+use Rattle.mp_build.proofs.Built.{pattern_faults-operands, pattern_faults-unknown, pattern_operand_faults-known}
+use Rattle.mp_build.proofs.Built.{fails-first_operand}
 use Rattle.mp_build.proofs.build.+build_pattern.Goals as goal
 
 pub build_pattern-returns-in_err-op-in-Apply : goal.build_pattern-returns-in_err-op-in-Apply
@@ -104,19 +106,22 @@ infix_pattern-returns-in_err-sign_op t c =
     (sym (pattern_faults-operands c.args.sig.now (map wildcard_view c.args.before.now.items) c.args.place
     (spot_of_sign c.args.sign) c.args.operands.now)) (fails-front e _ _ c.in_err-sign_op.ensures))
 
-pub infix_pattern-returns-in-None : goal.infix_pattern-returns-in-None
-infix_pattern-returns-in-None t c =
-    let e = c.unknown_pattern_sign.result in
+pub infix_pattern-returns-in_err-build_pattern-in-None : goal.infix_pattern-returns-in_err-build_pattern-in-None
+infix_pattern-returns-in_err-build_pattern-in-None t c =
+    let p = err_from_is_err_and c.from_residual-in_err-build_pattern-in-None.result
+    c.from_residual-in_err-build_pattern-in-None.ensures.1 in
+    let e = c.in_err-build_pattern-in-None.field-0.0 in
     let sig = c.args.sig.now in
+    let before = map wildcard_view c.args.before.now.items in
     let sign = spot_of_sign c.args.sign in
+    let operands = trees (map expr_tree c.args.operands.now) in
     let none = none-unknown (op_signed sig sign.text) (rw c.in-None.is at c.in_ok-sign_op.ensures.1.1) in
-    fails-along e _ _
-    (sym (pattern_faults-operands sig (map wildcard_view c.args.before.now.items) c.args.place sign
-    c.args.operands.now))
-    (fails-behind e _ _ c.in_ok-sign_op.ensures.0
-    (fails-along e _ _
-    (ap (λ o. pattern_operand_faults sig (map wildcard_view c.args.before.now.items) (sign_faults sign o)
-    (trees (map expr_tree c.args.operands.now))) (sym none)) c.unknown_pattern_sign.ensures))
+    rw (p.1, p.2)
+    (fails-along e _ _ (sym (pattern_faults-unknown sig before c.args.place sign operands none))
+    (fails-first_operand (pattern_faults sig before)
+    (λ t ts. sign_faults sign None ++ all_pattern_faults sig (before ++ pattern_wildcards sig t) ts)
+    (pattern_operand_faults sig before (sign_faults sign None)) (λ _ _. refl) c.args.operands.now c.first-item.result e
+    (omega arith) c.first-item.is c.in_err-build_pattern-in-None.ensures))
 
 pub infix_pattern-returns-in_err-patterns-in-Some : goal.infix_pattern-returns-in_err-patterns-in-Some
 infix_pattern-returns-in_err-patterns-in-Some t c =

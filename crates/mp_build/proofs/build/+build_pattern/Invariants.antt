@@ -26,8 +26,5 @@ decreases-build_pattern l = 3 * nodes (expr_tree l.expr.now)
 abbrev pub decreases-infix_pattern : goal.decreases-infix_pattern
 decreases-infix_pattern l = 3 * all_nodes (trees (map expr_tree l.operands.now)) + 2
 
-abbrev pub decreases-unknown_pattern_sign : goal.decreases-unknown_pattern_sign
-decreases-unknown_pattern_sign l = 3 * all_nodes (trees (map expr_tree l.operands.now)) + 1
-
 abbrev pub decreases-build_patterns : goal.decreases-build_patterns
 decreases-build_patterns l = 3 * all_nodes (trees (map expr_tree l.exprs.now)) + 1

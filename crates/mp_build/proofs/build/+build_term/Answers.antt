@@ -1,11 +1,12 @@
-use Rattle.std.proofs.Common.{◌≡◌, ◌+◌, map, None, arith, ◌∙◌, sym, ap, subst, refl}
+use Rattle.std.proofs.Common.{◌≡◌, ◌+◌, ◌++◌, map, None, arith, ◌∙◌, sym, ap, subst, refl}
 use Rattle.std.proofs.lemmas.Result.{err_from_is_err_and}
 use Rattle.mp_parser.specs.Syntax.{Tree, trees}
 use Rattle.mp_term.specs.View.{tree}
 use Rattle.mp_parser.specs.View.{spot_of_sign, expr_tree}
 use Rattle.mp_parser.proofs.Trees.{expr_tree-Infix}
 use Rattle.mp_build.specs.Answers.{Gives}
-use Rattle.mp_build.specs.Checks.{nodes, all_nodes, op_signed, sign_faults, term_faults}
+use Rattle.mp_build.specs.Checks.{nodes, all_nodes, op_signed, sign_faults, term_faults, term_operand_faults}
+use Rattle.mp_build.specs.Checks.{all_term_faults}
 use Rattle.mp_build.specs.Build.{head_number, sign_number, term_of}
 use Rattle.mp_term.specs.Tree as term
 use Rattle.mp_build.proofs.Applied.{nodes-Apply, nodes-Infix, nodes-item}
@@ -92,8 +93,9 @@ infix_term-returns-in_err-build_term-in-None t c =
     let none = none-unknown (op_signed sig sign.text) (rw c.in-None.is at c.in_ok-sign_op.ensures.1.1) in
     rw (p.1, p.2)
     (fails-along e _ _ (sym (term_faults-unknown sig c.args.place sign operands none))
-    (fails-first_operand sig (sign_faults sign None) c.args.operands.now c.first-item.result e (omega arith)
-    c.first-item.is c.in_err-build_term-in-None.ensures))
+    (fails-first_operand (term_faults sig) (λ _ ts. sign_faults sign None ++ all_term_faults sig ts)
+    (term_operand_faults sig (sign_faults sign None)) (λ _ _. refl) c.args.operands.now c.first-item.result e
+    (omega arith) c.first-item.is c.in_err-build_term-in-None.ensures))
 
 pub infix_term-returns-in_err-terms-in-Some : goal.infix_term-returns-in_err-terms-in-Some
 infix_term-returns-in_err-terms-in-Some t c =
