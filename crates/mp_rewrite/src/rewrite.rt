@@ -1,4 +1,5 @@
 //! One rewriting step, and as many as a limit allows.
+ghost use Rattle.std.specs.Prelude.{IfOk, IfSome};
 ghost use Rattle.mp_term.specs.View.{tree};
 ghost use Rattle.mp_rewrite.specs.Answers.{IsStepAnswer, IsRewritingAnswer};
 ghost use Rattle.mp_rewrite.specs.ComputedAnswers.{IsComputedStep, IsComputedRewriting};
@@ -16,7 +17,7 @@ use std::alloc::Global;
 /// A term after rewriting.
 #[derive(Drop)]
 pub struct Rewritten {
-    /// The term, in normal form.
+    /// The last term.
     pub term: Term,
     /// How many steps were made.
     pub turns: u64,
@@ -29,7 +30,7 @@ pub struct Rewritten {
 /// whole term after it, and None exactly where no position is live.
 ///
 /// The rules are sound and each has a template (`AreRewriteRules` of `specs/Rewritable.antt`); the term is normal, well
-/// formed and within the limits of a term (`IsRewritable`), and so is the one after the step.
+/// formed and within the limits of a term (`IsRewritable`, there too), and so is the one after the step.
 ///
 /// `TooLarge` and `TooDeep` come exactly where the instance of the template, or the term with the normal form of that
 /// put in, has more nodes or is deeper than a term may be (`step_excess` of mp_pattern's `specs/Step.antt`); `turns` is
@@ -44,6 +45,7 @@ pub fn step(
     requires term { IsRewritable sig.now (tree term.now) }
     ensures answer { IsStepAnswer sig.now rules.now (tree term.now) result }
     ensures computed { IsComputedStep (computed.next_step sig.now rules.now (tree term.now)) result }
+    ensures rewritable { IfOk result (λ o. IfSome o (λ u. IsRewritable sig.now (tree u))) }
 {
     signature_is_valid(sig);
     let planned = plan_rules(alloc, sig, rules.as_slice())?;
@@ -59,7 +61,8 @@ pub fn step(
 /// `specs/Rewriting.antt`). The answer has the last term, the number of steps, and whether the limit was reached at a
 /// term of which a position is still live.
 ///
-/// The conditions are those of `step`, which hold again after each step.
+/// The conditions are those of `step`; the last term too is normal, well formed and within the limits of a term
+/// (`IsRewritable` of `specs/Rewritable.antt`).
 ///
 /// `TooLarge` and `TooDeep` come exactly where a step before the limit exceeds a size, as `step` tells, after `turns`
 /// steps. `Memory` comes where there is no room. The term that was given stays as it is.
@@ -74,6 +77,7 @@ pub fn replace_all(
     requires term { IsRewritable sig.now (tree term.now) }
     ensures answer { IsRewritingAnswer sig.now rules.now max (tree term.now) result }
     ensures computed { IsComputedRewriting (computed.rewriting sig.now rules.now max (tree term.now)) result }
+    ensures rewritable { IfOk result (λ r. IsRewritable sig.now (tree r.term)) }
 {
     signature_is_valid(sig);
     let planned = plan_rules(alloc, sig, rules.as_slice())?;

@@ -1,5 +1,5 @@
 //! Steps made in place, as many as a limit allows.
-ghost use Rattle.std.specs.Prelude.{map};
+ghost use Rattle.std.specs.Prelude.{map, IfOk};
 ghost use Rattle.std.specs.List.{AllByRecursion};
 ghost use Rattle.mp_term.specs.View.{tree};
 ghost use Rattle.mp_rewrite.specs.ComputedAnswers.{IsComputedRewriting};
@@ -31,7 +31,9 @@ pub(crate) fn rewritten(
     requires planned { AllByRecursion (IsPlanned sig.now) (map rule_plan rules.now) }
     requires rules { AreRewriteRules sig.now (map planned_rule rules.now) }
     requires term { IsRewritable sig.now (tree term.now) }
-    ensures { IsComputedRewriting (computed.rewriting sig.now (map planned_rule rules.now) max (tree term.now)) result }
+    ensures computed { IsComputedRewriting
+        (computed.rewriting sig.now (map planned_rule rules.now) max (tree term.now)) result }
+    ensures rewritable { IfOk result (λ r. IsRewritable sig.now (tree r.term)) }
 {
     signature_is_valid(sig);
     let mut here = begin(alloc, term)?;

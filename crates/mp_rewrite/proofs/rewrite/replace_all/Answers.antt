@@ -19,4 +19,4 @@ returns-clause-answer c =
     IsRewritingAnswer-computed c.args.sig.now c.args.rules.now c.signature_is_valid.ensures c.requires.rules t
     c.requires.term c.args.max c.rewritten.result
     (subst (λ rules. IsComputedRewriting (rewriting c.args.sig.now rules c.args.max t) c.rewritten.result) same
-    c.rewritten.ensures)
+    c.rewritten.ensures.computed)

@@ -7,7 +7,7 @@ use Rattle.mp_pattern.specs.SoundRule.{IsSoundRule}
 use Rattle.mp_rewrite.specs.Computed.{next_step}
 use Rattle.mp_rewrite.specs.Answers.{IsStepAnswer}
 use Rattle.mp_rewrite.specs.Faults.{fault_after}
-use Rattle.mp_rewrite.specs.Turn.{IsStopped, IsTurn}
+use Rattle.mp_rewrite.specs.Turn.{IsNextTurn, IsStopped, IsTurn}
 use Rattle.mp_rewrite.proofs.CallAnswers.{IsStepAnswer-computed, IsComputedStep-stop}
 use Rattle.mp_rewrite.proofs.rewrite.step.Goals as goal
 use Rattle.mp_rewrite.proofs.rewrite.step.Goals.{After-take_turn}
@@ -42,6 +42,11 @@ returns-in-Ok-Made-clause-answer c =
     (tree c.args.term.now) c.requires.term (Ok (Some c.in-Ok-Made.next.term))
     (sym (same_step (goal.at.returns-in-Ok-Made-clause-answer c).After-take_turn)
     ∙ subst (λ x. IsTurn o c.in_ok-here.here (Ok x)) c.in-Ok-Made.field-0-is c.in-Ok-Made.ensures.turn)
+
+pub returns-in-Ok-Made-clause-rewritable : goal.returns-in-Ok-Made-clause-rewritable
+returns-in-Ok-Made-clause-rewritable c =
+    (subst (IsNextTurn c.args.sig.now (map planned_rule c.deref.result.now)) c.in-Ok-Made.field-0-is
+    c.in-Ok-Made.ensures.here).rewritable
 
 pub returns-in-Ok-Ended-clause-computed : goal.returns-in-Ok-Ended-clause-computed
 returns-in-Ok-Ended-clause-computed c =

@@ -8,6 +8,7 @@ use Rattle.mp_rewrite.specs.Computed.{rewriting, rewriting_from, next_step}
 use Rattle.mp_rewrite.specs.ComputedAnswers.{IsComputedRewriting}
 use Rattle.mp_rewrite.specs.Made.{redex_of}
 use Rattle.mp_pattern.specs.Planned.{planned_rule}
+use Rattle.mp_rewrite.specs.Rewritable.{IsRewritable}
 use Rattle.mp_rewrite.specs.Turn.{IsNextTurn, IsTurn}
 use Rattle.mp_rewrite.proofs.Steps.{is_some-next_step}
 use Rattle.mp_rewrite.proofs.turns.rewritten.Goals as goal
@@ -55,8 +56,8 @@ loop-turns-preserved c =
           c.in-Ok-Made.ensures.turn);
     }
 
-pub returns-in-Ok-Ended : goal.returns-in-Ok-Ended
-returns-in-Ok-Ended c =
+pub returns-in-Ok-Ended-clause-computed : goal.returns-in-Ok-Ended-clause-computed
+returns-in-Ok-Ended-clause-computed c =
     let sig = c.args.sig.now in
     let rules = map planned_rule c.args.rules.now in
     let w = rewriting sig rules c.args.max (tree c.args.term.now) in
@@ -70,8 +71,16 @@ returns-in-Ok-Ended c =
     c.in-Ok-Ended.ensures.turn in
     ended sig rules c.args.max turns here (tree c.in-Ok-Ended.term) w c.loop-turns-test.true left turn.0 turn.1
 
-pub returns-in-Err : goal.returns-in-Err
-returns-in-Err c =
+pub returns-in-Ok-Ended-clause-rewritable : goal.returns-in-Ok-Ended-clause-rewritable
+returns-in-Ok-Ended-clause-rewritable c =
+    let sig = c.args.sig.now in
+    let run = c.in_ok-run in
+    let o = next_step sig (map planned_rule c.args.rules.now) (tree run.run'.here.term) in
+    let turn = subst (λ x. IsTurn o run.run'.here (Ok x)) c.in-Ok-Ended.field-0-is c.in-Ok-Ended.ensures.turn in
+    subst (IsRewritable sig) (sym turn.1) run.ensures.here.rewritable
+
+pub returns-in-Err-clause-computed : goal.returns-in-Err-clause-computed
+returns-in-Err-clause-computed c =
     let sig = c.args.sig.now in
     let rules = map planned_rule c.args.rules.now in
     let w = rewriting sig rules c.args.max (tree c.args.term.now) in
@@ -84,8 +93,8 @@ returns-in-Err c =
     subst (λ e. IsComputedRewriting w (Err e)) (sym c.after.ensures)
     (stopped sig rules c.args.max turns here w c.in-Err.stop c.loop-turns-test.true left c.in-Err.ensures.turn)
 
-pub returns : goal.returns
-returns c =
+pub returns-clause-computed : goal.returns-clause-computed
+returns-clause-computed c =
     let sig = c.args.sig.now in
     let rules = map planned_rule c.args.rules.now in
     let w = rewriting sig rules c.args.max (tree c.args.term.now) in
@@ -97,3 +106,6 @@ returns c =
     (c.is_some-more.ensures ∙ sym (is_some-option_map (λ r. redex_of r.redex) c.in_ok-first_known_redex.field-0) ∙ redex
     ∙ sym (is_some-next_step sig rules c.signature_is_valid.ensures c.requires.rules here
     c.loop-turns.invariant.here.rewritable))
+
+pub returns-clause-rewritable : goal.returns-clause-rewritable
+returns-clause-rewritable c = c.loop-turns.invariant.here.rewritable
