@@ -169,6 +169,12 @@ module _ (sig : Sig) where
       → pattern_faults sig before (InfixOf place sign ts) ≡ pattern_operand_faults sig before (sign_faults sign None) ts
   pattern_faults-unknown before place sign ts h = rw h refl
 
+  -- the same in a template
+  pub template_faults-unknown : (vs : List Variable) (place : Place) (sign : Spot) (ts : Trees)
+      → op_signed sig sign.text ≡ None
+      → template_faults vs sig (InfixOf place sign ts) ≡ template_operand_faults vs sig (sign_faults sign None) ts
+  template_faults-unknown vs place sign ts h = rw h refl
+
   -- a sign that an operation has is no fault between operands
   pub term_operand_faults-known : (sign : Spot) (o : Option OpDecl) (ts : Trees) → true ≡ is_some o
       → term_operand_faults sig (sign_faults sign o) ts ≡ all_term_faults sig ts

@@ -1,16 +1,15 @@
 //! Makes templates of expressions, and checks them on the way.
 
-ghost use Rattle.std.specs.Prelude.{◌≡◌, None, map, option_map};
+ghost use Rattle.std.specs.Prelude.{◌≡◌, map, option_map};
 ghost use Rattle.mp_pattern.specs.TemplateView.{template_tree};
 ghost use Rattle.mp_parser.specs.Syntax.{trees, InfixOf};
 ghost use Rattle.mp_parser.specs.View.{spot_of, expr_tree, spot_of_sign, arrow_tree};
-ghost use Rattle.mp_build.specs.Answers.{Gives, Fails};
+ghost use Rattle.mp_build.specs.Answers.{Gives};
 ghost use Rattle.mp_build.specs.Build.{template_of};
-ghost use Rattle.mp_build.specs.Checks.{sign_faults};
 ghost use Rattle.mp_build.specs.ConditionChecks.{unbound_faults};
 ghost use Rattle.mp_build.specs.ScopeView.{variable_of};
 ghost use Rattle.mp_build.specs.TemplateChecks.{has_large_template, loose_template_faults};
-ghost use Rattle.mp_build.specs.TemplateChecks.{template_faults, template_operand_faults, all_template_faults};
+ghost use Rattle.mp_build.specs.TemplateChecks.{template_faults, all_template_faults};
 ghost use Rattle.mp_build.specs.TemplateChecks.{whole_template_faults, arrow_faults};
 
 use mp_build::{
@@ -86,33 +85,17 @@ fn infix_template<'a>(
         ≡ template_of sig.now (InfixOf place (spot_of_sign sign.entry) (trees (map expr_tree operands.now)))) }
 {
     match sign_op(sig, place, sign, Arguments::Templates(variables, operands))? {
-        None => Err(unknown_template_sign(alloc, sig, variables, sign, operands)),
+        None => {
+            if let [first, ..] = operands {
+                build_template(alloc, sig, variables, first)?;
+            }
+            Err(error_at(TextKind::UnknownOp, sign.place))
+        }
         Some(op) => {
             let templates = build_templates(alloc, sig, variables, operands)?;
             Ok(Template::App(op, templates))
         }
     }
-}
-
-/// The first fault of operands between which a sign stands that no operation has.
-#[cycle(build_template)]
-fn unknown_template_sign<'a>(
-    alloc: Global,
-    sig: &Signature,
-    variables: &[Variable<'a>],
-    sign: InfixSign<'a>,
-    operands: &[Expr<'a>],
-) -> TextError
-    ensures { Fails result
-        (template_operand_faults (map variable_of variables.now) sig.now (sign_faults (spot_of_sign sign.entry) None)
-        (trees (map expr_tree operands.now))) }
-{
-    if let [first, ..] = operands {
-        if let Err(error) = build_template(alloc, sig, variables, first) {
-            return error;
-        }
-    }
-    error_at(TextKind::UnknownOp, sign.place)
 }
 
 /// The templates of expressions, or their first fault.

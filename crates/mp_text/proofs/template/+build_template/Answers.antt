@@ -1,4 +1,4 @@
-use Rattle.std.proofs.Common.{◌≡◌, ◌+◌, map, arith, ◌∙◌, sym, ap, subst, refl}
+use Rattle.std.proofs.Common.{◌≡◌, ◌+◌, ◌++◌, map, None, arith, ◌∙◌, sym, ap, subst, refl}
 use Rattle.std.proofs.lemmas.Result.{err_from_is_err_and}
 use Rattle.mp_pattern.specs.TemplateTree as template
 use Rattle.mp_pattern.specs.TemplateView.{template_tree}
@@ -9,11 +9,11 @@ use Rattle.mp_build.specs.Answers.{Gives}
 use Rattle.mp_build.specs.Checks.{nodes, all_nodes, op_signed, sign_faults}
 use Rattle.mp_build.specs.Build.{head_number, sign_number, template_of}
 use Rattle.mp_build.specs.ScopeView.{variable_of}
-use Rattle.mp_build.specs.TemplateChecks.{template_faults, template_operand_faults}
+use Rattle.mp_build.specs.TemplateChecks.{template_faults, template_operand_faults, all_template_faults}
 use Rattle.mp_build.proofs.Applied.{nodes-Apply, nodes-Infix, nodes-item}
 use Rattle.mp_build.proofs.Fails.{fails-front, fails-behind, fails-along, none-append}
 use Rattle.mp_build.proofs.Built.{none-unknown, template_of-Apply, template_faults-Apply, template_of-operands}
-use Rattle.mp_build.proofs.Built.{template_operand_faults-known}
+use Rattle.mp_build.proofs.Built.{template_faults-unknown, template_operand_faults-known, fails-first_operand}
 use Rattle.mp_text.proofs.template.+build_template.Goals as goal
 
 pub build_template-returns-in_err-op-in-Apply : goal.build_template-returns-in_err-op-in-Apply
@@ -95,16 +95,21 @@ infix_template-returns-in_err-sign_op t c =
     let p = err_from_is_err_and c.from_residual.result c.from_residual.ensures.1 in
     rw (p.1, p.2) (fails-front c.in_err-sign_op.field-0.0 _ _ c.in_err-sign_op.ensures)
 
-pub infix_template-returns-in-None : goal.infix_template-returns-in-None
-infix_template-returns-in-None t c =
-    let e = c.unknown_template_sign.result in
+pub infix_template-returns-in_err-build_template-in-None : goal.infix_template-returns-in_err-build_template-in-None
+infix_template-returns-in_err-build_template-in-None t c =
+    let p = err_from_is_err_and c.from_residual-in_err-build_template-in-None.result
+    c.from_residual-in_err-build_template-in-None.ensures.1 in
+    let e = c.in_err-build_template-in-None.field-0.0 in
     let sig = c.args.sig.now in
+    let vs = map variable_of c.args.variables.now in
     let sign = spot_of_sign c.args.sign in
+    let operands = trees (map expr_tree c.args.operands.now) in
     let none = none-unknown (op_signed sig sign.text) (rw c.in-None.is at c.in_ok-sign_op.ensures.1.1) in
-    fails-behind e _ _ c.in_ok-sign_op.ensures.0
-    (fails-along e _ _
-    (ap (λ o. template_operand_faults (map variable_of c.args.variables.now) sig (sign_faults sign o)
-    (trees (map expr_tree c.args.operands.now))) (sym none)) c.unknown_template_sign.ensures)
+    rw (p.1, p.2)
+    (fails-along e _ _ (sym (template_faults-unknown sig vs c.args.place sign operands none))
+    (fails-first_operand (template_faults vs sig) (λ _ ts. sign_faults sign None ++ all_template_faults vs sig ts)
+    (template_operand_faults vs sig (sign_faults sign None)) (λ _ _. refl) c.args.operands.now c.first-item.result e
+    (omega arith) c.first-item.is c.in_err-build_template-in-None.ensures))
 
 pub infix_template-returns-in_err-templates-in-Some : goal.infix_template-returns-in_err-templates-in-Some
 infix_template-returns-in_err-templates-in-Some t c =

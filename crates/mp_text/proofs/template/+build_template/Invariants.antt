@@ -25,8 +25,5 @@ decreases-build_template l = 3 * nodes (expr_tree l.expr.now)
 abbrev pub decreases-infix_template : goal.decreases-infix_template
 decreases-infix_template l = 3 * all_nodes (trees (map expr_tree l.operands.now)) + 2
 
-abbrev pub decreases-unknown_template_sign : goal.decreases-unknown_template_sign
-decreases-unknown_template_sign l = 3 * all_nodes (trees (map expr_tree l.operands.now)) + 1
-
 abbrev pub decreases-build_templates : goal.decreases-build_templates
 decreases-build_templates l = 3 * all_nodes (trees (map expr_tree l.exprs.now)) + 1
