@@ -1,6 +1,7 @@
 -- What a writer has done with the text that was put to it, step by step.
-use Rattle.std.proofs.Common.{◌≡◌, [], ◌++◌, refl, sym, ap, ◌∙◌, subst, append_assoc, append-nil, false, Ok, Err}
-use Rattle.std.specs.Prelude.{Result, is_err, ⊤}
+use Rattle.std.proofs.Common.{◌≡◌, [], ◌++◌, refl, sym, ap, ◌∙◌, subst, append_assoc, append-nil, Bool, true, false}
+use Rattle.std.proofs.Common.{Ok, Err}
+use Rattle.std.specs.Prelude.{Result, is_err, MatchBool, ⊤}
 use Rattle.mp_io.specs.Devices.{Text}
 use Rattle.mp_io.specs.Moments.{sunk}
 use Rattle.mp_io.specs.Printing.{Prints}
@@ -25,6 +26,29 @@ module _ {K : Type 0} (words : SinkWords K) where
     behind = λ start before h. subst (λ l. HasPut words start l w) (append_assoc before first second)
         (q.behind start (before ++ first) (p.behind start before h));
   }
+
+  -- a text is held back behind the bytes that are held back
+  pub Puts-held : (u : Writer K) (room text : Text) → room ≡ u.room ++ text
+      → Puts words u (record u { room = room }) text
+  Puts-held u room text is = record { same = refl; behind = λ start before h. go u.failed start before h }
+    where
+      go : (failed : Bool) (start : K) (before : Text)
+          → MatchBool failed (Prints {T = ⊤} {E = ⊤} (sunk words start u.sink.now) before (Err tt))
+          ((front : Text) × (before ≡ front ++ u.room)
+          × Prints {T = ⊤} {E = ⊤} (sunk words start u.sink.now) front (Ok tt))
+          → MatchBool failed (Prints {T = ⊤} {E = ⊤} (sunk words start u.sink.now) (before ++ text) (Err tt))
+          ((front : Text) × (before ++ text ≡ front ++ room)
+          × Prints {T = ⊤} {E = ⊤} (sunk words start u.sink.now) front (Ok tt))
+      go true start before h = prints_longer words start u.sink.now before text tt h
+      go false start before h = (
+        h.0,
+        ap (λ l. l ++ text) h.1 ∙ append_assoc h.0 u.room text ∙ ap (λ l. h.0 ++ l) (sym is),
+        h.2,
+      )
+
+  -- the bytes that are held back stay
+  pub Puts-kept : (u : Writer K) (room : Text) → room ≡ u.room → Puts words u (record u { room = room }) []
+  Puts-kept u room is = Puts-held u room [] (is ∙ sym (append-nil u.room))
 
   -- the bytes that are held back and the text behind them are written, as far as that goes
   pub Puts-written : {T E : Type 0} (u w : Writer K) (text : Text) (result : Result T E)
