@@ -5,10 +5,7 @@ ghost use Rattle.std.specs.Prelude.{◌≤◌};
 use crate::program_rows::{BAD_LINES, DECLARED, PROGRAMS, Row};
 use crate::texts::{file, parts};
 use mp_gen::generate;
-use mp_line::{
-    Line, MAX_KEPT, condition_names, is_test_name, number, number_of_name, read_instr, read_line,
-    read_rule,
-};
+use mp_line::{Line, MAX_KEPT, condition_names, is_test_name, number, number_of_name, read_line};
 use mp_many::Many;
 use mp_pattern::{Cond, Conds};
 use mp_print::TextSink;
@@ -60,29 +57,6 @@ fn keep(rt: &impl Abort, line: Line, text: &str, draft: &mut Draft) {
     }
 }
 
-// Stops unless the text is that of an instruction or of a rule exactly where the line is one.
-fn check_kinds(
-    rt: &impl Abort,
-    alloc: Global,
-    sig: &Signature,
-    format: Format,
-    own: u32,
-    text: &str,
-    line: &Option<Line>,
-) {
-    assert!(rt; text.len() <= 1000, "{text}");
-    let instr = read_instr(alloc, sig, format, own, text.as_bytes()).expect(rt, "memory");
-    assert!(rt;
-        instr.is_some() == matches!(line, Some(Line::Instr(_))),
-        "{text}"
-    );
-    let rule = read_rule(alloc, sig, format, text.as_bytes()).expect(rt, "memory");
-    assert!(rt;
-        rule.is_some() == matches!(line, Some(Line::Rule(_))),
-        "{text}"
-    );
-}
-
 // The line of the text, where the next instruction has the number.
 fn line_of(
     rt: &impl Abort,
@@ -95,9 +69,7 @@ fn line_of(
     requires { 1 ≤ own }
 {
     assert!(rt; text.len() <= 1000, "{text}");
-    let line = read_line(alloc, sig, format, own, text.as_bytes()).expect(rt, "memory");
-    check_kinds(rt, alloc, sig, format, own, text, &line);
-    line
+    read_line(alloc, sig, format, own, text.as_bytes()).expect(rt, "memory")
 }
 
 // Adds what the line of the text says, behind those that were read.

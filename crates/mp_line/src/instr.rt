@@ -54,11 +54,9 @@ fn instr(
     }
 }
 
-/// The instruction whose text this is, without its line feed, in a program text of the format, where the next
-/// instruction has the number (`IsInstrText` of `specs/LineTexts.antt`). The text has fewer than 4,294,967,295 bytes.
-///
-/// `None`: it is the text of no instruction of the number. `Memory`: memory ran out.
-pub fn read_instr(
+// The instruction whose text this is, without its line feed, in a program text of the format, where the next
+// instruction has the number. None: it is the text of no instruction of the number.
+pub(crate) fn read_instr(
     alloc: Global,
     sig: &Signature,
     format: Format,

@@ -15,9 +15,7 @@ mod token;
 mod wild;
 mod words;
 
-pub use instr::read_instr;
 pub use line::{Line, read_line};
 pub use names::MAX_KEPT;
 pub use numbers::{number, number_of_name};
-pub use rule::read_rule;
 pub use test::{condition_names, is_test_name};

@@ -126,12 +126,9 @@ fn spelled_rule(alloc: Global, sig: &Signature, text: &[u8]) -> Result<Option<Ru
     }
 }
 
-/// The rule line whose text this is, without its line feed, in a program text of the format (`IsRuleText` of
-/// `specs/LineTexts.antt`). The text has fewer than 4,294,967,295 bytes. The names of `MAX_KEPT` variables are kept at
-/// most.
-///
-/// `None`: it is the text of no rule line. `Memory`: memory ran out.
-pub fn read_rule(
+// The rule line whose text this is, without its line feed, in a program text of the format. The names of `MAX_KEPT`
+// variables are kept at most. None: it is the text of no rule line.
+pub(crate) fn read_rule(
     alloc: Global,
     sig: &Signature,
     format: Format,

@@ -2,25 +2,20 @@
 use Rattle.std.proofs.Common.{◌≡◌, ◌<◌, ◌≤◌, ℕ, suc, ◌+◌, ◌-◌, List, [], ◌∷◌, ◌++◌, map, length, refl, ap, sym}
 use Rattle.std.proofs.Common.{◌∙◌}
 use Rattle.std.proofs.Common.{arith, subst, length-append}
-use Rattle.std.specs.Prelude.{◌^◌, ◌≢◌, codes, decimal, min, Option, Some, None, true}
+use Rattle.std.specs.Prelude.{◌^◌, ◌≢◌, codes, decimal, min}
 use Rattle.mp_io.specs.Devices.{Text}
 use Rattle.mp_term.specs.Signature.{Sig}
-use Rattle.mp_pattern.specs.declared.limits.TheConstants.{MAX_RULES}
-use Rattle.mp_program.specs.Form.{format_number, Form, RuleLine}
+use Rattle.mp_program.specs.Form.{format_number, Form}
 use Rattle.mp_program.specs.FormText as text
 use Rattle.mp_program.specs.FormText.{lines_text}
 use Rattle.mp_program.specs.Reading.{Begins}
-use Rattle.mp_program.specs.RightForm.{IsShort}
-use Rattle.mp_walk.specs.Instrs.{Instr}
 use Rattle.mp_program.proofs.LineLaws.{lines_text-append}
 use Rattle.mp_program.specs.RuleView.{rule_line_view}
 use Rattle.mp_line.specs.Lines.{Line, op_line, kind_line, test_line, rule_line, code_line, begin_line, instr_line}
 use Rattle.mp_line.specs.Lines.{stop_line, IsLineText}
 use Rattle.mp_line.specs.Finds.{IsOnly}
-use Rattle.mp_line.specs.LineTexts.{IsRuleText, IsInstrText}
-use Rattle.mp_line.proofs.LineLaws.{rule-found, instr-found}
 use Rattle.mp_vm.specs.declared.draft.Draft.{Draft}
-use Rattle.mp_vm.specs.Machine.{State, begun_lines, state_lines, IsState, MayCome, step, may_follow, any_instr}
+use Rattle.mp_vm.specs.Machine.{State, begun_lines, state_lines, IsState, MayCome, step}
 use Rattle.mp_vm.specs.declared.stage.Stage.{Stage}
 use Rattle.mp_vm.specs.declared.stage.Stage.TheVariants.{Ops, Kinds, Tests, Rules, Code, Begin, Instrs, Stop}
 use Rattle.mp_vm.specs.Kept.{kept}
@@ -146,19 +141,6 @@ kept-comes most s (begin_line d) h = h
 kept-comes most s (instr_line i) h = h
 kept-comes most s stop_line h = h
 
--- an instruction may stand where another may
-follows-any : (i : Instr) (stage : Stage) (d : Option ℕ)
-    → may_follow (instr_line any_instr) stage d ≡ may_follow (instr_line i) stage d
-follows-any i Ops d = refl
-follows-any i Kinds d = refl
-follows-any i Tests d = refl
-follows-any i Rules d = refl
-follows-any i Code d = refl
-follows-any i Begin None = refl
-follows-any i Begin (Some n) = refl
-follows-any i Instrs d = refl
-follows-any i Stop d = refl
-
 module _ (sig : Sig) where
   -- the next instruction has a number of 32 bits
   pub few-code : (s : State) → IsState sig s → suc (length s.form.code) < 2 ^ 32
@@ -235,59 +217,3 @@ module _ (sig : Sig) where
     none-refused none = no_next sig most read line h.state some h.only (λ l t m.
         none-next sig most h.state.form line
         (subst (λ (P : Line → Type 0). (k : Line) → P k → ⊥) reads-state none) l t)
-
-    -- the line of an instruction
-    abbrev ReadsInstr : Instr → Type 0
-    ReadsInstr = IsInstrText sig old.format own line
-
-    -- is found by it
-    reads-instr : (i : Instr) → IsOnly ReadsInstr i → IsOnly Reads (instr_line i)
-    reads-instr i only =
-        let short = few-code h.state h.only.is.is in
-        let same = ap length h.draft.code in
-        instr-found sig old.format own (omega (arith, number)) (omega (arith, short, same, number)) line most i only
-
-    -- it may come next
-    instr-comes : (i : Instr) → may_follow (instr_line any_instr) old.stage old.begin ≡ true
-        → IsShort (suc (suc (length old.code))) → MayCome h.state (instr_line i)
-    instr-comes i follows room = record {
-      follows = sym (follows-any i h.state.stage h.state.form.begin)
-          ∙ (sym (ap (λ st. may_follow (instr_line any_instr) st h.state.form.begin) h.draft.stage)
-          ∙ (sym (ap (may_follow (instr_line any_instr) old.stage) h.draft.begin) ∙ follows));
-      room = subst (λ code. IsShort (suc (suc (length code)))) h.draft.code room;
-    }
-
-    pub instr-taken : (new : Draft) (i : Instr) → IsOnly ReadsInstr i
-        → may_follow (instr_line any_instr) old.stage old.begin ≡ true → IsShort (suc (suc (length old.code)))
-        → IsKept most old new (instr_line i) (length line) → HasRead sig most new (read ++ line ∷ [])
-    instr-taken new i only follows room =
-        line-taken new (instr_line i) (reads-instr i only) (instr-comes i follows room)
-
-    pub instr-refused : (i : Instr) → IsOnly ReadsInstr i → (IsShort (suc (suc (length old.code))) → ⊥)
-        → Begins sig (read ++ line ∷ []) → ⊥
-    instr-refused i only full = line-refused (instr_line i) (reads-instr i only)
-        (λ m. full (subst (λ code. IsShort (suc (suc (length code)))) (sym h.draft.code) m.room))
-
-    -- the line of a rule
-    abbrev ReadsRule : RuleLine → Type 0
-    ReadsRule = IsRuleText sig old.format most line
-
-    -- is found by it
-    reads-rule : (r : RuleLine) → IsOnly ReadsRule r → IsOnly Reads (rule_line r)
-    reads-rule r only =
-        let short = few-code h.state h.only.is.is in
-        let same = ap length h.draft.code in
-        rule-found sig old.format own (omega (arith, number)) (omega (arith, short, same, number)) line most r only
-
-    pub rule-taken : (new : Draft) (r : RuleLine) → IsOnly ReadsRule r
-        → may_follow (rule_line r) old.stage old.begin ≡ true → length h.state.form.rules < MAX_RULES
-        → IsKept most old new (rule_line r) (length line) → HasRead sig most new (read ++ line ∷ [])
-    rule-taken new r only follows room = line-taken new (rule_line r) (reads-rule r only) (record {
-      follows = sym (ap (λ st. may_follow (rule_line r) st h.state.form.begin) h.draft.stage)
-          ∙ (sym (ap (may_follow (rule_line r) old.stage) h.draft.begin) ∙ follows);
-      room = room;
-    })
-
-    pub rule-refused : (r : RuleLine) → IsOnly ReadsRule r → (length h.state.form.rules < MAX_RULES → ⊥)
-        → Begins sig (read ++ line ∷ []) → ⊥
-    rule-refused r only full = line-refused (rule_line r) (reads-rule r only) (λ m. full m.room)

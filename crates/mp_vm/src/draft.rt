@@ -1,27 +1,21 @@
 //! The form of the lines of a program text, as far as it is read.
 
 ghost use Rattle.std.specs.Prelude.{◌≡◌, ◌≢◌, ◌<◌, ◌^◌, ◌+◌, ◌-◌, ◌++◌, ◌∷◌};
-ghost use Rattle.std.specs.Prelude.{[], List, ℕ, suc, false, ◌↔◌, length, IfOk, IsTrue, MatchOption, ◌≤◌};
+ghost use Rattle.std.specs.Prelude.{[], List, false, ◌↔◌, length, IfOk, IsTrue, MatchOption, ◌≤◌};
 ghost use Rattle.mp_io.specs.Devices.{Text};
-ghost use Rattle.mp_pattern.specs.declared.limits.TheConstants.{MAX_RULES};
-ghost use Rattle.mp_program.specs.Form as form;
 ghost use Rattle.mp_program.specs.FormText.{lines_text};
 ghost use Rattle.mp_program.specs.Reading.{Begins};
-ghost use Rattle.mp_program.specs.RightForm.{IsShort};
-ghost use Rattle.mp_program.specs.RuleView.{rule_line_view};
-ghost use Rattle.mp_walk.specs.InstrView.{plain_instr};
-ghost use Rattle.mp_line.specs.Lines.{rule_line, code_line, instr_line, stop_line};
 ghost use Rattle.mp_line.specs.LineView.{line_view};
-ghost use Rattle.mp_vm.specs.Machine.{State, start, may_follow, HasRoom, MayCome, any_instr, stage_of};
+ghost use Rattle.mp_vm.specs.Machine.{State, start, may_follow, HasRoom, MayCome, stage_of};
 ghost use Rattle.mp_vm.specs.declared.stage.Stage.TheVariants as stage;
 ghost use Rattle.mp_vm.specs.DraftView.{IsDraftOf, HasRead, IsKept};
 
 use crate::stage::Stage;
-use mp_line::{Line, MAX_KEPT, read_instr, read_line, read_rule};
+use mp_line::{Line, MAX_KEPT, read_line};
 use mp_pattern::{Conds, MAX_RULES};
 use mp_program::{Format, RuleLine};
 use mp_term::{Memory, Signature};
-use mp_walk::{Instr, Instrs};
+use mp_walk::Instrs;
 use std::alloc::Global;
 
 // What is read behind the first line.
@@ -77,48 +71,12 @@ impl Draft {
         let Some(own) = self.next_number() else {
             return Ok(false);
         };
-        if self.may_go_on() {
-            if let Some(instr) = read_instr(alloc, sig, self.format, own, text)? {
-                let right = self.has_room_for_more();
-                self.keep_instr(instr)?;
-                return Ok(right);
-            }
-        }
-        self.take_other(alloc, sig, own, text)
-    }
-
-    // Takes any line, where the next instruction has the number.
-    fn take_other(
-        &mut self,
-        alloc: Global,
-        sig: &Signature,
-        own: u32,
-        text: &[u8],
-    ) -> Result<bool, Memory>
-        requires few { length text.now < 2 ^ 32 - 1 }
-        requires own { own ≡ length self.old.code + 1 }
-        ensures taken { (read : List Text) → read ≢ [] → HasRead sig.now MAX_KEPT self.old read
-            → length (lines_text (read ++ text.now ∷ [])) < 2 ^ 32 - 1
-            → IfOk result (λ b. IsTrue b → HasRead sig.now MAX_KEPT self.new (read ++ text.now ∷ [])) }
-        ensures refused { (read : List Text) → read ≢ [] → HasRead sig.now MAX_KEPT self.old read
-            → length (lines_text (read ++ text.now ∷ [])) < 2 ^ 32 - 1
-            → IfOk result (λ b. b ≡ false → Begins sig.now (read ++ text.now ∷ []) → ⊥) }
-    {
-        if self.may_have_rules() {
-            if let Some(rule) = read_rule(alloc, sig, self.format, text)? {
-                let right = self.has_room_for_rules();
-                self.keep_rule(rule)?;
-                return Ok(right);
-            }
-        }
-        match read_line(alloc, sig, self.format, own, text)? {
-            Some(line) => {
-                let right = self.may_come(&line);
-                self.keep(line, text.len())?;
-                Ok(right)
-            }
-            None => Ok(false),
-        }
+        let Some(line) = read_line(alloc, sig, self.format, own, text)? else {
+            return Ok(false);
+        };
+        let right = self.may_come(&line);
+        self.keep(line, text.len())?;
+        Ok(right)
     }
 
     // The text may end here.
@@ -150,10 +108,17 @@ impl Draft {
             Line::Op => self.stage == Stage::Ops,
             Line::Kind => matches!(self.stage, Stage::Ops | Stage::Kinds),
             Line::Test(_) => matches!(self.stage, Stage::Ops | Stage::Kinds | Stage::Tests),
-            Line::Rule(_) | Line::Code => self.may_have_rules(),
+            Line::Rule(_) | Line::Code => matches!(
+                self.stage,
+                Stage::Ops | Stage::Kinds | Stage::Tests | Stage::Rules
+            ),
             Line::Begin(_) => self.stage == Stage::Code,
-            Line::Instr(_) => self.may_go_on(),
-            Line::Stop => self.may_stop(),
+            Line::Instr(_) => {
+                self.stage == Stage::Instrs || self.stage == Stage::Begin && self.begin.is_some()
+            }
+            Line::Stop => {
+                self.stage == Stage::Instrs || self.stage == Stage::Begin && self.begin.is_none()
+            }
         }
     }
 
@@ -163,56 +128,9 @@ impl Draft {
     {
         match line {
             Line::Test(_) => self.format == Format::Two && self.tests.len() < MAX_RULES,
-            Line::Rule(_) => self.has_room_for_rules(),
-            Line::Instr(_) => self.has_room_for_more(),
+            Line::Rule(_) => self.rules.len() < MAX_RULES,
+            Line::Instr(_) => self.code.len() < u32::MAX as usize - 1,
             _ => true,
-        }
-    }
-
-    // There is room for one rule more.
-    fn has_room_for_rules(&self) -> bool
-        ensures { (s : State) → IsDraftOf MAX_KEPT self.now s → (IsTrue result ↔ length s.form.rules < MAX_RULES) }
-    {
-        self.rules.len() < MAX_RULES
-    }
-
-    // There is room for one instruction more.
-    fn has_room_for_more(&self) -> bool
-        ensures { IsTrue result ↔ IsShort (suc (suc (length self.now.code))) }
-    {
-        self.code.len() < u32::MAX as usize - 1
-    }
-
-    // A rule may come next, or `code`.
-    fn may_have_rules(&self) -> bool
-        ensures rule { (r : form.RuleLine) → result ≡ may_follow (rule_line r) self.now.stage self.now.begin }
-        ensures code { result ≡ may_follow code_line self.now.stage self.now.begin }
-    {
-        matches!(
-            self.stage,
-            Stage::Ops | Stage::Kinds | Stage::Tests | Stage::Rules
-        )
-    }
-
-    // An instruction may come next.
-    fn may_go_on(&self) -> bool
-        ensures { result ≡ may_follow (instr_line any_instr) self.now.stage self.now.begin }
-    {
-        match self.stage {
-            Stage::Begin => self.begin.is_some(),
-            Stage::Instrs => true,
-            _ => false,
-        }
-    }
-
-    // The instructions may end here.
-    fn may_stop(&self) -> bool
-        ensures { result ≡ may_follow stop_line self.now.stage self.now.begin }
-    {
-        match self.stage {
-            Stage::Begin => self.begin.is_none(),
-            Stage::Instrs => true,
-            _ => false,
         }
     }
 
@@ -239,25 +157,6 @@ impl Draft {
             Line::Instr(instr) => self.code.push(instr),
             Line::Code | Line::Stop => Ok(()),
         }
-    }
-
-    // Keeps a rule line, whether or not it may stand there.
-    fn keep_rule(&mut self, rule: RuleLine) -> Result<(), Memory>
-        ensures { IfOk result (λ _. (length : ℕ)
-            → IsKept MAX_KEPT self.old self.new (rule_line (rule_line_view rule)) length) }
-    {
-        self.stage = Stage::Rules;
-        self.rules.push(rule)?;
-        Ok(())
-    }
-
-    // Keeps an instruction, whether or not it may stand there.
-    fn keep_instr(&mut self, instr: Instr) -> Result<(), Memory>
-        ensures { IfOk result (λ _. (length : ℕ)
-            → IsKept MAX_KEPT self.old self.new (instr_line (plain_instr instr)) length) }
-    {
-        self.stage = Stage::Instrs;
-        self.code.push(instr)
     }
 }
 
