@@ -265,12 +265,6 @@ module _ (sig : Sig) (format : Format) (n : ℕ) (some : 1 ≤ n) (small : n < 2
         from (instr_line i) g = g
         from stop_line g = g
 
-    -- the line of an instruction is found by it
-    pub instr-found : (i : Instr) → IsOnly (IsInstrText sig format n text) i → IsOnly IsThere (instr_line i)
-    instr-found i h =
-        code-line-through instr_line (Some i) (sym (ap begins_with_digit h.is.text) ∙ number-begins n _ small)
-        (instr-here i h)
-
     -- another is one of the others
     pub no-word-line : begins_with_digit text ≡ false → (IsDeclaration (codes "op ") text → ⊥)
         → (IsDeclaration (codes "kind ") text → ⊥) → ((c : Cond) → IsTestText sig text c → ⊥)
