@@ -53,8 +53,8 @@ fn owner_of(places: &[usize], place: usize) -> Option<usize>
     places.iter().position(|own| *own == place)
 }
 
-// What a look at the later children goes by: the child at hand and its siblings, the ranks that it takes, the trail, and
-// the number of the first later child. What holds of it is `IsLook` of `specs/Look.antt`.
+// What a look at the later children goes by: the child at hand and its siblings, the ranks that it takes, the trail,
+// and the number of the first later child. What holds of it is `IsLook` of `specs/Look.antt`.
 #[derive(Clone, Copy)]
 pub(crate) struct Look<'a> {
     query: &'a Query<'a>,

@@ -78,9 +78,9 @@ impl<'a> Runner<'a> {
     }
 
     /// The pairs of a rule's number and a substitution that the program accepts on the table's subject, each once, in
-    /// order (`IsProgramList` of `specs/ProgramList.antt`), with values by ranks in the table. This must be one on which
-    /// the program may be run (`IsProgramTable`), as are those of `table`. `Memory` comes where there is no room for the
-    /// walk or the pairs.
+    /// order (`IsProgramList` of `specs/ProgramList.antt`), with values by ranks in the table. This must be one on
+    /// which the program may be run (`IsProgramTable`), as are those of `table`. `Memory` comes where there is no room
+    /// for the walk or the pairs.
     pub fn pairs<'b>(
         &'b self,
         alloc: Global,

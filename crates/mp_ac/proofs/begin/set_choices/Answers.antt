@@ -42,7 +42,8 @@ loop-index-preserved c =
     omega (arith, c.loop-index-test.true, c.loop-index.invariant.count, c.requires.children) in
     let wide : room.width ≤ own.rest.room = subst (λ (k : Pick). room.width ≤ k.rest.room)
     (sym c.index_mut-pick.ensures.value)
-    (all-index (λ (k : Pick). room.width ≤ k.rest.room) room.picks.items i own c.loop-index.invariant.room.picks inside) in
+    (all-index (λ (k : Pick). room.width ≤ k.rest.room) room.picks.items i own c.loop-index.invariant.room.picks
+    inside) in
     let start : c.len-start.result ≡ length room.choices.items = c.len-start.ensures ∙ room.choices.ok.0 in
     let count : length part ≡ end - from = omega (
       arith,

@@ -47,7 +47,8 @@ returns-in_err-members c =
     c.in_err-members.ensures))
 
 -- the kind has no faults, since its name and its members have none
-faultless : (c : After-add_kind) → kind_faults c.args.sig.now (spot_of c.args.name) (map spot_of c.args.members.now) ≡ []
+faultless : (c : After-add_kind)
+    → kind_faults c.args.sig.now (spot_of c.args.name) (map spot_of c.args.members.now) ≡ []
 faultless c =
     let names = kind_names c.args.sig.now in
     let held = c.is_some-is_held.ensures ∙ is_some-found_kind

@@ -17,5 +17,11 @@ mark_from-requires t c =
     let others = stands-others c.args.look.query.now c.args.node c.args.children.now c.child-item.result
     c.in-len1-up.len_at_least c.child-item.is c.requires.children c.end_of-end.result c.end_of-end.ensures in (
       omega (arith, c.decreases, c.in-len1-up.len_at_least),
-      (c.requires.look, (others, omega (arith, c.is_placed.ensures.places, c.is_placed.ensures.marks, c.requires.many))),
+      (
+        c.requires.look,
+        (
+          others,
+          omega (arith, c.is_placed.ensures.places, c.is_placed.ensures.marks, c.requires.many),
+        ),
+      ),
     )
