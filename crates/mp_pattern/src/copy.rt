@@ -65,6 +65,19 @@ fn copy_operand(alloc: Global, source: &Operand) -> Result<Operand, Memory>
     }
 }
 
+// Equal operands, two of them.
+fn copy_operands(
+    alloc: Global,
+    first: &Operand,
+    second: &Operand,
+) -> Result<(Operand, Operand), Memory>
+    ensures first { IfOk result (λ r. operand r.0 ≡ operand first.now) }
+    ensures second { IfOk result (λ r. operand r.1 ≡ operand second.now) }
+{
+    let first = copy_operand(alloc, first)?;
+    Ok((first, copy_operand(alloc, second)?))
+}
+
 // An equal amount.
 fn copy_amount(alloc: Global, source: &Amount) -> Result<Amount, Memory>
     ensures { IfOk result (λ m. amount m ≡ amount source.now) }
@@ -76,37 +89,46 @@ fn copy_amount(alloc: Global, source: &Amount) -> Result<Amount, Memory>
     }
 }
 
+// Equal amounts, two of them.
+fn copy_amounts(alloc: Global, first: &Amount, second: &Amount) -> Result<(Amount, Amount), Memory>
+    ensures first { IfOk result (λ r. amount r.0 ≡ amount first.now) }
+    ensures second { IfOk result (λ r. amount r.1 ≡ amount second.now) }
+{
+    let first = copy_amount(alloc, first)?;
+    Ok((first, copy_amount(alloc, second)?))
+}
+
 /// An equal condition: one of the same tree. `Memory` comes where there is no room for it.
 #[cycle(copy_cond)]
 pub fn copy_cond(alloc: Global, cond: &Cond) -> Result<Cond, Memory>
     ensures { IfOk result (λ c. cond_tree c ≡ cond_tree cond.now) }
 {
-    match cond {
+    Ok(match cond {
         Cond::Amounts(m, sense, n) => {
-            let m = copy_amount(alloc, m)?;
-            Ok(Cond::Amounts(m, *sense, copy_amount(alloc, n)?))
+            let (m, n) = copy_amounts(alloc, m, n)?;
+            Cond::Amounts(m, *sense, n)
         }
         Cond::Same(a, b) => {
-            let a = copy_operand(alloc, a)?;
-            Ok(Cond::Same(a, copy_operand(alloc, b)?))
+            let (a, b) = copy_operands(alloc, a, b)?;
+            Cond::Same(a, b)
         }
         Cond::Less(a, b) => {
-            let a = copy_operand(alloc, a)?;
-            Ok(Cond::Less(a, copy_operand(alloc, b)?))
+            let (a, b) = copy_operands(alloc, a, b)?;
+            Cond::Less(a, b)
         }
         Cond::Free(a, b) => {
-            let a = copy_operand(alloc, a)?;
-            Ok(Cond::Free(a, copy_operand(alloc, b)?))
+            let (a, b) = copy_operands(alloc, a, b)?;
+            Cond::Free(a, b)
         }
-        Cond::OfKind(a, kind) => Ok(Cond::OfKind(copy_operand(alloc, a)?, *kind)),
-        Cond::Headed(a, op) => Ok(Cond::Headed(copy_operand(alloc, a)?, *op)),
+        Cond::OfKind(a, kind) => Cond::OfKind(copy_operand(alloc, a)?, *kind),
+        Cond::Headed(a, op) => Cond::Headed(copy_operand(alloc, a)?, *op),
         Cond::Not(boxed) => {
             let inner = copy_cond(alloc, &boxed.cond)?;
-            Ok(Cond::Not(BoxedCond::new(alloc, inner)?))
+            Cond::Not(BoxedCond::new(alloc, inner)?)
         }
-        Cond::All(parts) => Ok(Cond::All(copy_conds(alloc, parts)?)),
-        Cond::Any(parts) => Ok(Cond::Any(copy_conds(alloc, parts)?)),
-    }
+        Cond::All(parts) => Cond::All(copy_conds(alloc, parts)?),
+        Cond::Any(parts) => Cond::Any(copy_conds(alloc, parts)?),
+    })
 }
 
 // An equal list of conditions.
