@@ -4,12 +4,21 @@ ghost use Rattle.std.specs.List.Sorted.{IsStrictlySortedBy};
 ghost use Rattle.mp_term.specs.Tree.{symbol, app, trees};
 ghost use Rattle.mp_term.specs.View.{tree};
 ghost use Rattle.mp_term.specs.Order.{tree_cmp, shortlex};
+ghost use Rattle.mp_table.specs.Sought.{sought_tree, IsSought};
 ghost use Rattle.mp_table.specs.Table.{term_at, terms_at, HasRank, HasRanks, rank_of};
 
 use crate::rank::{Head, Rank};
 use crate::table::Table;
 use mp_term::{Name, OpId, Term};
 use std::cmp::Ordering;
+
+// What is looked for in a table: a term, the symbol of a name, or an operation applied to the terms of ranks.
+#[derive(Clone, Copy)]
+enum Sought<'a> {
+    Term(&'a Term),
+    Symbol(&'a Name),
+    App(OpId, &'a [Rank]),
+}
 
 impl Table {
     // The term of a rank beside a term.
@@ -82,60 +91,63 @@ impl Table {
         }
     }
 
-    /// The rank of a term, and None exactly where the table doesn't hold it (`rank_of` of `specs/Table.antt`). It
-    /// compares the term with so many others as the number of terms has binary digits, and takes no memory.
+    // The term of a rank beside what is looked for.
+    #[inline(always)]
+    fn compare(&self, rank: Rank, sought: &Sought<'_>) -> Ordering
+        requires ascending { IsStrictlySortedBy tree_cmp self.now.terms }
+        requires rank { HasRank self.now rank }
+        requires sought { IsSought self.now sought.now }
+        ensures { result ≡ tree_cmp (term_at self.now rank) (sought_tree self.now sought.now) }
+    {
+        match sought {
+            Sought::Term(term) => self.compare_term(rank, term),
+            Sought::Symbol(name) => self.compare_symbol(rank, name),
+            Sought::App(op, ranks) => self.compare_app(rank, *op, ranks),
+        }
+    }
+
+    // The rank of what is looked for, and None exactly where the table doesn't hold it. At most so many terms are
+    // compared with it as the number of terms has binary digits.
+    #[inline(always)]
+    fn search(&self, sought: &Sought<'_>) -> Option<Rank>
+        requires { IsSought self.now sought.now }
+        ensures { option_map (λ r. r.0) result ≡ rank_of self.now (sought_tree self.now sought.now) }
+    {
+        let mut low = 0;
+        let mut high = self.len();
+        while low < high {
+            let middle = low + (high - low) / 2;
+            match self.compare(Rank(middle), sought) {
+                Ordering::Less => low = middle + 1,
+                Ordering::Equal => return Some(Rank(middle)),
+                Ordering::Greater => high = middle,
+            }
+        }
+        None
+    }
+
+    /// The rank of a term, and None exactly where the table doesn't hold it (`rank_of` of `specs/Table.antt`). It takes
+    /// no memory.
     pub fn find(&self, term: &Term) -> Option<Rank>
         ensures { option_map (λ r. r.0) result ≡ rank_of self.now (tree term.now) }
     {
-        let mut low = 0;
-        let mut high = self.len();
-        while low < high {
-            let middle = low + (high - low) / 2;
-            match self.compare_term(Rank(middle), term) {
-                Ordering::Less => low = middle + 1,
-                Ordering::Equal => return Some(Rank(middle)),
-                Ordering::Greater => high = middle,
-            }
-        }
-        None
+        self.search(&Sought::Term(term))
     }
 
     /// The rank of the symbol of a name, and None exactly where the table doesn't hold it (`rank_of` of
-    /// `specs/Table.antt`). It compares the name with the heads of so many terms as the number of terms has binary
-    /// digits, and takes no memory.
+    /// `specs/Table.antt`). It takes no memory.
     pub fn find_symbol(&self, name: &Name) -> Option<Rank>
         ensures { option_map (λ r. r.0) result ≡ rank_of self.now (symbol name.now) }
     {
-        let mut low = 0;
-        let mut high = self.len();
-        while low < high {
-            let middle = low + (high - low) / 2;
-            match self.compare_symbol(Rank(middle), name) {
-                Ordering::Less => low = middle + 1,
-                Ordering::Equal => return Some(Rank(middle)),
-                Ordering::Greater => high = middle,
-            }
-        }
-        None
+        self.search(&Sought::Symbol(name))
     }
 
     /// The rank of the application of an operation to the terms of ranks, each of which must be below `len`, and None
-    /// exactly where the table doesn't hold that term (`rank_of` of `specs/Table.antt`). It compares so many lists of
-    /// ranks as the number of terms has binary digits, and takes no memory.
+    /// exactly where the table doesn't hold that term (`rank_of` of `specs/Table.antt`). It takes no memory.
     pub fn find_app(&self, op: OpId, ranks: &[Rank]) -> Option<Rank>
         requires { HasRanks self.now ranks.now }
         ensures { option_map (λ r. r.0) result ≡ rank_of self.now (app op.0 (trees (terms_at self.now ranks.now))) }
     {
-        let mut low = 0;
-        let mut high = self.len();
-        while low < high {
-            let middle = low + (high - low) / 2;
-            match self.compare_app(Rank(middle), op, ranks) {
-                Ordering::Less => low = middle + 1,
-                Ordering::Equal => return Some(Rank(middle)),
-                Ordering::Greater => high = middle,
-            }
-        }
-        None
+        self.search(&Sought::App(op, ranks))
     }
 }
