@@ -3,7 +3,7 @@
 use Rattle.std.proofs.Common.{◌≡◌, ◌≤◌, ℕ, List, [], ◌∷◌, map, length, Bool, true, false, refl, ap, ap₂, sym, ◌∙◌}
 use Rattle.std.proofs.Common.{inl, inr, subst}
 use Rattle.std.specs.Prelude.{Option, Some, None, ◌&&◌, ◌||◌, not, filter, option_map, if◌then◌else◌, sum_by}
-use Rattle.std.specs.List.{AllByRecursion, list_any}
+use Rattle.std.specs.List.{AllByRecursion, list_any, list_all}
 use Rattle.mp_term.specs.Listing.{In}
 use Rattle.mp_term.specs.NormalTest.{has_head}
 use Rattle.mp_term.specs.Signature.{Sig, in_kind}
@@ -17,7 +17,7 @@ use Rattle.mp_pattern.specs.Admission.{meets}
 use Rattle.mp_pattern.specs.CondTree.{Operand, var, ground, Amount, fixed, count, size, Cond, amounts, same, less, free}
 use Rattle.mp_pattern.specs.CondTree.{of_kind, headed, negation, all_of, any_of, Conds, no_conds, more_conds}
 use Rattle.mp_pattern.specs.Fits.{AllTakeBy, ByValue, Fits, Table, Takes, is_left_out, no_sequence, some_left_out}
-use Rattle.mp_pattern.specs.Holds.{amount_of, all_hold, compares, every, comes_before, holds, is_bag, list_of, listed}
+use Rattle.mp_pattern.specs.Holds.{amount_of, all_hold, compares, comes_before, holds, is_bag, list_of, listed}
 use Rattle.mp_pattern.specs.Holds.{occurs, some_holds, value_at}
 use Rattle.mp_pattern.specs.NetTokens.{renamed, all_renamed, tokens_of}
 use Rattle.mp_pattern.specs.Operands.{all_operands, amount_operands, operands}
@@ -258,9 +258,9 @@ module _ (sig : Sig) (vs : List (List ℕ)) (s u : Subst) where
         else same_terms (listed v) (listed w)) h.0 h.1.0
     holds-kept (less a b) h = ap₂ comes_before h.0 h.1.0
     holds-kept (free a b) h =
-        ap₂ (λ ts us. every (λ t. every (λ w. not (occurs t w)) us) ts) (list-kept a h.0) (list-kept b h.1.0)
-    holds-kept (of_kind a k) h = ap (every (in_kind sig k)) (list-kept a h.0)
-    holds-kept (headed a f) h = ap (every (has_head f)) (list-kept a h.0)
+        ap₂ (λ ts us. list_all (λ t. list_all (λ w. not (occurs t w)) us) ts) (list-kept a h.0) (list-kept b h.1.0)
+    holds-kept (of_kind a k) h = ap (list_all (in_kind sig k)) (list-kept a h.0)
+    holds-kept (headed a f) h = ap (list_all (has_head f)) (list-kept a h.0)
     holds-kept (negation c) h = ap not (holds-kept c h)
     holds-kept (all_of cs) h = all_hold-kept cs h
     holds-kept (any_of cs) h = some_hold-kept cs h

@@ -1,7 +1,7 @@
 -- A condition holds of two substitutions alike that give its operands the same values.
 use Rattle.std.proofs.Common.{◌≡◌, Bool, ◌&&◌, ◌||◌, not, length, refl, ap}
 use Rattle.std.specs.Prelude.{Option, sum_by, if◌then◌else◌}
-use Rattle.std.specs.List.{AllByRecursion}
+use Rattle.std.specs.List.{AllByRecursion, list_all}
 use Rattle.mp_term.specs.Order.{tree_cmp}
 use Rattle.mp_term.specs.Size.{node_count}
 use Rattle.mp_term.specs.Sorting.{sorted}
@@ -12,7 +12,7 @@ use Rattle.mp_pattern.specs.CondTree.{Operand, Amount, fixed, count, size, Cond,
 use Rattle.mp_pattern.specs.CondTree.{of_kind, headed, negation, all_of, any_of, Conds, no_conds, more_conds}
 use Rattle.mp_pattern.specs.Operands.{amount_operands, operands, all_operands}
 use Rattle.mp_pattern.specs.Value.{Value, Subst, same_terms}
-use Rattle.mp_pattern.specs.Holds.{value_at, listed, is_bag, comes_before, every, occurs, amount_of, compares}
+use Rattle.mp_pattern.specs.Holds.{value_at, listed, is_bag, comes_before, occurs, amount_of, compares}
 use Rattle.mp_pattern.specs.Holds.{holds, all_hold, some_holds}
 
 module _ (r s : Subst) where
@@ -39,9 +39,9 @@ module _ (r s : Subst) where
       holds-agree (same a b) h = (λ i. are_same (h.0 i) (h.1.0 i))
       holds-agree (less a b) h = (λ i. comes_before (h.0 i) (h.1.0 i))
       holds-agree (free a b) h =
-          (λ i. every (λ t. every (λ u. not (occurs t u)) (listed (h.1.0 i))) (listed (h.0 i)))
-      holds-agree (of_kind a k) h = ap (λ v. every (in_kind sig k) (listed v)) h.0
-      holds-agree (headed a f) h = ap (λ v. every (has_head f) (listed v)) h.0
+          (λ i. list_all (λ t. list_all (λ u. not (occurs t u)) (listed (h.1.0 i))) (listed (h.0 i)))
+      holds-agree (of_kind a k) h = ap (λ v. list_all (in_kind sig k) (listed v)) h.0
+      holds-agree (headed a f) h = ap (λ v. list_all (has_head f) (listed v)) h.0
       holds-agree (negation c) h = ap not (holds-agree c h)
       holds-agree (all_of cs) h = all_hold-agree cs h
       holds-agree (any_of cs) h = some_holds-agree cs h

@@ -1,5 +1,4 @@
 pub mod ReadyLaws
-mod Every
 mod Counted
 mod Same
 mod Parts

@@ -3,7 +3,7 @@ use Rattle.std.proofs.Common.{◌≡◌, ℕ, ◌+◌, Bool, true, false, ◌&&�
 use Rattle.std.proofs.Common.{refl, ap, sym, ◌∙◌, inl}
 use Rattle.std.proofs.Common.{inr, subst}
 use Rattle.std.specs.Prelude.{Option, Some, None, option_map, position}
-use Rattle.std.specs.List.{AllByRecursion}
+use Rattle.std.specs.List.{AllByRecursion, list_all}
 use Rattle.std.specs.Ordering.{eq_by_cmp}
 use Rattle.mp_term.specs.Tree.{Tree, symbol, app, Trees, no_trees, more_trees, tree_list, trees}
 use Rattle.mp_term.specs.TreeLists.{tree_list-trees}
@@ -14,13 +14,12 @@ use Rattle.mp_term.proofs.ListingLaws.{all_in}
 use Rattle.mp_term.proofs.SignatureLaws.{position-first, position-behind}
 use Rattle.mp_term.proofs.Sorting.{sorted-single}
 use Rattle.mp_pattern.specs.Value.{same_terms}
-use Rattle.mp_pattern.specs.Holds.{same_term, occurs, occurs_in, every}
+use Rattle.mp_pattern.specs.Holds.{same_term, occurs, occurs_in}
 use Rattle.mp_table.specs.Table.{Table, IsTable, terms_at, HasRanks, rank_of}
 use Rattle.mp_table.specs.declared.rank.Rank.{Rank}
 use Rattle.mp_table.proofs.TextLaws.{in-place}
 use Rattle.mp_cond.proofs.TermTests.{same_term-itself, same_term-other, same_terms-other}
-use Rattle.mp_cond.proofs.Every.{every-cons}
-use Rattle.mp_cond.proofs.Occurs.{every-occurs}
+use Rattle.mp_cond.proofs.Occurs.{list_all-occurs}
 
 apart : (b : Bool) → b ≡ true → b ≡ false → ⊥
 apart true e d = cc
@@ -84,8 +83,8 @@ module _ (t : Table) (is : IsTable t) (w : Tree) (none : rank_of t w ≡ None) w
     occurs_in-missing_ranks = occurs_in-missing (trees (terms_at t rs))
         (subst (AllByRecursion (λ u. In u t.terms)) (sym (tree_list-trees (terms_at t rs))) (terms_at-in t rs h))
 
-    pub every-missing : every (λ u. not (occurs w u)) (terms_at t rs) ≡ true
-    every-missing = every-occurs w (terms_at t rs) ∙ ap not occurs_in-missing_ranks
+    pub list_all-missing : list_all (λ u. not (occurs w u)) (terms_at t rs) ≡ true
+    list_all-missing = list_all-occurs w (terms_at t rs) ∙ ap not occurs_in-missing_ranks
 
     -- the list of it alone is another list than that of the terms of ranks
     single_unlike : (us : List Tree) → AllByRecursion (λ u. In u t.terms) us → w ∷ [] ≡ us → ⊥
@@ -109,22 +108,20 @@ module _ (t : Table) (is : IsTable t) (w : Tree) (none : rank_of t w ≡ None) w
     missing-same_terms_sorted = same_terms-other _ _ (λ e. sorted_unlike (sym e))
 
     -- of terms of the table, none occurs in an application of the same arguments but below it
-    pub every-below : (f : ℕ) (us : List Tree) → w ≡ app f (trees us)
-        → every (λ v. every (λ u. not (occurs v u)) (w ∷ [])) (terms_at t rs)
-        ≡ every (λ v. every (λ u. not (occurs v u)) us) (terms_at t rs)
-    every-below f us e = go (terms_at t rs) (terms_at-in t rs h)
+    pub list_all-below : (f : ℕ) (us : List Tree) → w ≡ app f (trees us)
+        → list_all (λ v. list_all (λ u. not (occurs v u)) (w ∷ [])) (terms_at t rs)
+        ≡ list_all (λ v. list_all (λ u. not (occurs v u)) us) (terms_at t rs)
+    list_all-below f us e = go (terms_at t rs) (terms_at-in t rs h)
       where
-        alone : (v : Tree) → every (λ u. not (occurs v u)) (w ∷ []) ≡ not (occurs v w)
-        alone v = elim (occurs v w) as (λ b. not (not (not b) || false) ≡ not b) [ true ↦ refl | false ↦ refl ]
+        alone : (v : Tree) → list_all (λ u. not (occurs v u)) (w ∷ []) ≡ not (occurs v w)
+        alone v = elim (occurs v w) as (λ b. not b && true ≡ not b) [ true ↦ refl | false ↦ refl ]
 
         below : (v : Tree) → In v t.terms → occurs v w ≡ occurs_in v (trees us)
         below v i = ap (occurs v) e ∙ ap (λ b. b || occurs_in v (trees us))
             (ap (same_term v) (sym e) ∙ missing-same_term v i)
 
         go : (vs : List Tree) → AllByRecursion (λ v. In v t.terms) vs
-            → every (λ v. every (λ u. not (occurs v u)) (w ∷ [])) vs ≡ every (λ v. every (λ u. not (occurs v u)) us) vs
+            → list_all (λ v. list_all (λ u. not (occurs v u)) (w ∷ [])) vs ≡ list_all (λ v. list_all (λ u. not (occurs v u)) us) vs
         go [] k = refl
         go (v ∷ vs) k =
-            every-cons (λ x. every (λ u. not (occurs x u)) (w ∷ [])) v vs
-            ∙ (λ j. (alone v ∙ ap not (below v k.0) ∙ sym (every-occurs v us)) j && go vs k.1 j)
-            ∙ sym (every-cons (λ x. every (λ u. not (occurs x u)) us) v vs)
+            λ j. (alone v ∙ ap not (below v k.0) ∙ sym (list_all-occurs v us)) j && go vs k.1 j

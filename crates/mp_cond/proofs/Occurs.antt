@@ -3,13 +3,13 @@ use Rattle.std.proofs.Common.{◌≡◌, ◌<◌, ◌≤◌, Bool, true, false, 
 use Rattle.std.proofs.Common.{[], ◌∷◌, refl, ap, sym, ◌∙◌}
 use Rattle.std.proofs.Common.{arith, inl, inr}
 use Rattle.std.specs.Prelude.{◌⊎◌}
+use Rattle.std.specs.List.{list_all}
 use Rattle.mp_term.specs.Tree.{Tree, symbol, app, Trees, no_trees, more_trees, trees}
 use Rattle.mp_term.specs.TreeLists.{trees-tree_list}
 use Rattle.mp_term.specs.Size.{node_count, node_counts}
-use Rattle.mp_pattern.specs.Holds.{same_term, occurs, occurs_in, every}
+use Rattle.mp_pattern.specs.Holds.{same_term, occurs, occurs_in}
 use Rattle.mp_table.specs.Subterms.{arguments}
 use Rattle.mp_cond.proofs.TermTests.{same_term-itself, equal-from_same_term}
-use Rattle.mp_cond.proofs.Every.{every-cons}
 
 pub occurs-itself : (t : Tree) → occurs t t ≡ true
 occurs-itself (symbol n) = same_term-itself (symbol n)
@@ -58,11 +58,10 @@ occurs-below t (app f us) h =
     ap (λ b. b || occurs_in t us) h ∙ ap (occurs_in t) (sym (trees-tree_list us))
 
 -- it occurs in none of the terms
-pub every-occurs : (t : Tree) (us : List Tree) → every (λ u. not (occurs t u)) us ≡ not (occurs_in t (trees us))
-every-occurs t [] = refl
-every-occurs t (u ∷ us) =
-    every-cons (λ v. not (occurs t v)) u us
-    ∙ ap (λ b. not (occurs t u) && b) (every-occurs t us)
+pub list_all-occurs : (t : Tree) (us : List Tree) → list_all (λ u. not (occurs t u)) us ≡ not (occurs_in t (trees us))
+list_all-occurs t [] = refl
+list_all-occurs t (u ∷ us) =
+    ap (λ b. not (occurs t u) && b) (list_all-occurs t us)
     ∙ neither (occurs t u) (occurs_in t (trees us))
   where
     neither : (a b : Bool) → not a && not b ≡ not (a || b)

@@ -1,10 +1,11 @@
 -- Values by ranks, and atoms over their terms.
-use Rattle.std.proofs.Common.{◌≡◌, ◌+◌, Bool, true, false, ◌||◌, not, List, [], ◌∷◌}
+use Rattle.std.proofs.Common.{◌≡◌, ◌+◌, Bool, true, false, ◌&&◌, ◌||◌, not, List, [], ◌∷◌}
 use Rattle.std.proofs.Common.{refl, ap, sym, ◌∙◌, subst, arith}
 use Rattle.std.specs.Prelude.{Some, None, sum_by, if◌then◌else◌}
 use Rattle.std.specs.declared.cmp.Ordering.{Ordering}
 use Rattle.std.specs.declared.cmp.Ordering.TheVariants.{Less, Equal, Greater}
 use Rattle.std.specs.Ordering.{is_eq, is_ne, is_lt, nat_cmp}
+use Rattle.std.specs.List.{list_all}
 use Rattle.mp_term.specs.declared.term.OpId.{OpId}
 use Rattle.mp_term.specs.Tree.{Tree}
 use Rattle.mp_term.specs.Order.{tree_cmp}
@@ -12,7 +13,7 @@ use Rattle.mp_term.specs.OrderLaws.{ordering_then-equal}
 use Rattle.mp_term.specs.Size.{node_count, all_nodes}
 use Rattle.mp_term.specs.Sorting.{sorted}
 use Rattle.mp_pattern.specs.Value.{Value, terms_of, same_terms}
-use Rattle.mp_pattern.specs.Holds.{is_bag, comes_before, every, same_term, occurs}
+use Rattle.mp_pattern.specs.Holds.{is_bag, comes_before, same_term, occurs}
 use Rattle.mp_table.specs.Table.{Table, IsTable, terms_at, HasRanks, rank_of}
 use Rattle.mp_table.specs.declared.rank.Rank.{Rank}
 use Rattle.mp_table.proofs.RankLaws.{rank_order}
@@ -20,8 +21,8 @@ use Rattle.mp_cond.specs.declared.ranked.Ranked.{Ranked}
 use Rattle.mp_cond.specs.declared.ranked.Ranked.TheVariants.{One, Wrap, Seq, Bag}
 use Rattle.mp_cond.specs.Ranked.{app_at, value_at, wrap_of, ranks_of, IsMissing, IsIn}
 use Rattle.mp_cond.proofs.Counted.{sum_by-node_count}
-use Rattle.mp_cond.proofs.Missing.{occurs_in-missing_ranks, every-missing, same_terms-missing, missing-same_terms}
-use Rattle.mp_cond.proofs.Missing.{same_terms-missing_sorted, missing-same_terms_sorted, every-below}
+use Rattle.mp_cond.proofs.Missing.{occurs_in-missing_ranks, list_all-missing, same_terms-missing, missing-same_terms}
+use Rattle.mp_cond.proofs.Missing.{same_terms-missing_sorted, missing-same_terms_sorted, list_all-below}
 
 -- the terms of a value that isn't an application
 pub terms_of-plain : (t : Table) (a : Ranked) → wrap_of a ≡ None → terms_of (value_at t a) ≡ terms_at t (ranks_of a)
@@ -113,7 +114,7 @@ same_values-mixed_back t is a b g h k e d =
 
 -- no term of ts occurs in one of us
 abbrev pub are_free : List Tree → List Tree → Bool
-are_free ts us = every (λ t. every (λ u. not (occurs t u)) us) ts
+are_free ts us = list_all (λ t. list_all (λ u. not (occurs t u)) us) ts
 
 -- terms of the table, and those of a value
 pub are_free-plain : (t : Table) → IsTable t → (a b : Ranked) → IsIn t a → IsIn t b → wrap_of a ≡ None
@@ -124,13 +125,13 @@ are_free-plain t is a b h k e =
     ≡ are_free (terms_of (value_at t a)) (terms_of (value_at t b))) [
       | None ↦ λ d. (λ i. are_free (sym (terms_of-plain t a e) i) (sym (terms_of-plain t b d) i))
       | Some g ↦ λ d.
-          sym (every-below t is (app_at t g (ranks_of b)) (missing t b g k d) (ranks_of a) h.ranks g.0
+          sym (list_all-below t is (app_at t g (ranks_of b)) (missing t b g k d) (ranks_of a) h.ranks g.0
           (terms_at t (ranks_of b)) refl)
           ∙ (λ i. are_free (sym (terms_of-plain t a e) i) (sym (terms_of-wrapped t b g d) i))
     ] refl
 
-alone : (test : Tree → Bool) (t : Tree) → every test (t ∷ []) ≡ test t
-alone test t = elim (test t) as (λ b. not (not b || false) ≡ b) [ true ↦ refl | false ↦ refl ]
+alone : (test : Tree → Bool) (t : Tree) → list_all test (t ∷ []) ≡ test t
+alone test t = elim (test t) as (λ b. b && true ≡ b) [ true ↦ refl | false ↦ refl ]
 
 is_ne-not : (o : Ordering) → is_ne o ≡ not (is_eq o)
 is_ne-not Less = refl
@@ -149,7 +150,7 @@ are_free-wrapped t is a b f g h k e d =
     ∙ ap not (sym (or-false (same_term w x)))
     ∙ ap (λ v. not (same_term w x || v)) (sym (occurs_in-missing_ranks t is w (missing t a f h e) (ranks_of b) k.ranks))
     ∙ sym (alone (λ u. not (occurs w u)) x)
-    ∙ sym (alone (λ v. every (λ u. not (occurs v u)) (x ∷ [])) w)
+    ∙ sym (alone (λ v. list_all (λ u. not (occurs v u)) (x ∷ [])) w)
     ∙ (λ i. are_free (sym (terms_of-wrapped t a f e) i) (sym (terms_of-wrapped t b g d) i))
 
 -- an application, and a value that is none
@@ -157,8 +158,8 @@ pub are_free-mixed : (t : Table) → IsTable t → (a b : Ranked) (f : OpId) →
     → wrap_of b ≡ None → true ≡ are_free (terms_of (value_at t a)) (terms_of (value_at t b))
 are_free-mixed t is a b f h k e d =
     let w = app_at t f (ranks_of a) in
-    sym (every-missing t is w (missing t a f h e) (ranks_of b) k.ranks)
-    ∙ sym (alone (λ v. every (λ u. not (occurs v u)) (terms_at t (ranks_of b))) w)
+    sym (list_all-missing t is w (missing t a f h e) (ranks_of b) k.ranks)
+    ∙ sym (alone (λ v. list_all (λ u. not (occurs v u)) (terms_at t (ranks_of b))) w)
     ∙ (λ i. are_free (sym (terms_of-wrapped t a f e) i) (sym (terms_of-plain t b d) i))
 
 -- two terms of the table compare by their ranks

@@ -1,9 +1,9 @@
 //! Tests of each term of a list of ranks, and its size.
 ghost use Rattle.std.specs.Prelude.{◌≡◌, ◌<◌, ◌^◌};
+ghost use Rattle.std.specs.List.{list_all};
 ghost use Rattle.mp_term.specs.Size.{all_nodes};
 ghost use Rattle.mp_term.specs.Signature.{in_kind};
 ghost use Rattle.mp_term.specs.NormalTest.{has_head};
-ghost use Rattle.mp_pattern.specs.Holds.{every};
 ghost use Rattle.mp_table.specs.Table.{term_at, terms_at, HasRank, HasRanks};
 
 use mp_table::{Head, Rank, Table};
@@ -23,7 +23,7 @@ fn is_in_kind(sig: &Signature, kind: KindId, table: &Table, rank: Rank) -> bool
 // Whether each term is a symbol of the kind.
 pub(crate) fn are_in_kind(sig: &Signature, kind: KindId, table: &Table, ranks: &[Rank]) -> bool
     requires { HasRanks table.now ranks.now }
-    ensures { result ≡ every (in_kind sig.now kind.0) (terms_at table.now ranks.now) }
+    ensures { result ≡ list_all (in_kind sig.now kind.0) (terms_at table.now ranks.now) }
 {
     for rank in ranks {
         if !is_in_kind(sig, kind, table, *rank) {
@@ -47,7 +47,7 @@ fn is_headed(table: &Table, op: OpId, rank: Rank) -> bool
 // Whether each term is an application of the operation.
 pub(crate) fn have_head(table: &Table, op: OpId, ranks: &[Rank]) -> bool
     requires { HasRanks table.now ranks.now }
-    ensures { result ≡ every (has_head op.0) (terms_at table.now ranks.now) }
+    ensures { result ≡ list_all (has_head op.0) (terms_at table.now ranks.now) }
 {
     for rank in ranks {
         if !is_headed(table, op, *rank) {

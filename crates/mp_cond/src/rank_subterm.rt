@@ -1,6 +1,7 @@
 //! Subterms by ranks.
 ghost use Rattle.std.specs.Prelude.{◌≡◌, not};
-ghost use Rattle.mp_pattern.specs.Holds.{every, occurs};
+ghost use Rattle.std.specs.List.{list_all};
+ghost use Rattle.mp_pattern.specs.Holds.{occurs};
 ghost use Rattle.mp_table.specs.Table.{term_at, terms_at, HasRank, HasRanks, IsTable};
 
 use mp_table::{Rank, Table};
@@ -32,7 +33,7 @@ fn is_free(table: &Table, rank: Rank, others: &[Rank]) -> bool
     requires table { IsTable table.now }
     requires rank { HasRank table.now rank }
     requires others { HasRanks table.now others.now }
-    ensures { result ≡ every (λ u. not (occurs (term_at table.now rank) u)) (terms_at table.now others.now) }
+    ensures { result ≡ list_all (λ u. not (occurs (term_at table.now rank) u)) (terms_at table.now others.now) }
 {
     for other in others {
         if occurs(table, rank, *other) {
@@ -47,7 +48,7 @@ pub(crate) fn are_free(table: &Table, ranks: &[Rank], others: &[Rank]) -> bool
     requires table { IsTable table.now }
     requires ranks { HasRanks table.now ranks.now }
     requires others { HasRanks table.now others.now }
-    ensures { result ≡ every (λ t. every (λ u. not (occurs t u)) (terms_at table.now others.now))
+    ensures { result ≡ list_all (λ t. list_all (λ u. not (occurs t u)) (terms_at table.now others.now))
         (terms_at table.now ranks.now) }
 {
     for rank in ranks {

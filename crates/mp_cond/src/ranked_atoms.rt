@@ -1,12 +1,13 @@
 //! Atoms over values by ranks in a table.
 ghost use Rattle.std.specs.Prelude.{◌≡◌, ◌||◌, not, length, sum_by, Some, if◌then◌else◌};
+ghost use Rattle.std.specs.List.{list_all};
 ghost use Rattle.mp_term.specs.Order.{tree_cmp};
 ghost use Rattle.mp_term.specs.Size.{node_count};
 ghost use Rattle.mp_term.specs.Sorting.{sorted};
 ghost use Rattle.mp_term.specs.Signature.{in_kind};
 ghost use Rattle.mp_term.specs.NormalTest.{has_head};
 ghost use Rattle.mp_pattern.specs.Value.{terms_of, same_terms};
-ghost use Rattle.mp_pattern.specs.Holds.{is_bag, comes_before, every, occurs};
+ghost use Rattle.mp_pattern.specs.Holds.{is_bag, comes_before, occurs};
 ghost use Rattle.mp_table.specs.Table as plain_table;
 ghost use Rattle.mp_table.specs.Table.{terms_at, HasRanks, IsTable};
 ghost use Rattle.mp_cond.specs.Ranked.{value_at, IsIn};
@@ -105,7 +106,7 @@ pub(crate) fn are_free(table: &Table, a: &Ranked<'_>, b: &Ranked<'_>) -> bool
     requires table { IsTable table.now }
     requires first { IsIn table.now a.now }
     requires second { IsIn table.now b.now }
-    ensures { result ≡ every (λ t. every (λ u. not (occurs t u)) (terms_of (value_at table.now b.now)))
+    ensures { result ≡ list_all (λ t. list_all (λ u. not (occurs t u)) (terms_of (value_at table.now b.now)))
         (terms_of (value_at table.now a.now)) }
 {
     match (a.wrap(), b.wrap()) {
@@ -118,7 +119,7 @@ pub(crate) fn are_free(table: &Table, a: &Ranked<'_>, b: &Ranked<'_>) -> bool
 // Whether each term is a symbol of the kind.
 pub(crate) fn are_in_kind(sig: &Signature, kind: KindId, table: &Table, a: &Ranked<'_>) -> bool
     requires { IsIn table.now a.now }
-    ensures { result ≡ every (in_kind sig.now kind.0) (terms_of (value_at table.now a.now)) }
+    ensures { result ≡ list_all (in_kind sig.now kind.0) (terms_of (value_at table.now a.now)) }
 {
     match a.wrap() {
         None => rank_lists::are_in_kind(sig, kind, table, a.ranks()),
@@ -129,7 +130,7 @@ pub(crate) fn are_in_kind(sig: &Signature, kind: KindId, table: &Table, a: &Rank
 // Whether each term is an application of the operation.
 pub(crate) fn have_head(table: &Table, op: OpId, a: &Ranked<'_>) -> bool
     requires { IsIn table.now a.now }
-    ensures { result ≡ every (has_head op.0) (terms_of (value_at table.now a.now)) }
+    ensures { result ≡ list_all (has_head op.0) (terms_of (value_at table.now a.now)) }
 {
     match a.wrap() {
         None => rank_lists::have_head(table, op, a.ranks()),

@@ -1,5 +1,6 @@
 //! What the operands of a condition stand for.
 ghost use Rattle.std.specs.Prelude.{◌≡◌, ◌||◌, not, length, sum_by, if◌then◌else◌};
+ghost use Rattle.std.specs.List.{list_all};
 ghost use Rattle.mp_term.specs.Order.{tree_cmp};
 ghost use Rattle.mp_term.specs.Size.{node_count};
 ghost use Rattle.mp_term.specs.Sorting.{sorted};
@@ -8,7 +9,7 @@ ghost use Rattle.mp_term.specs.NormalTest.{has_head};
 ghost use Rattle.mp_pattern.specs.CondTree as plain;
 ghost use Rattle.mp_pattern.specs.CondView.{operand};
 ghost use Rattle.mp_pattern.specs.Value.{Subst, same_terms};
-ghost use Rattle.mp_pattern.specs.Holds.{value_at, list_of, is_bag, comes_before, every, occurs};
+ghost use Rattle.mp_pattern.specs.Holds.{value_at, list_of, is_bag, comes_before, occurs};
 
 use mp_pattern::Operand;
 use mp_term::{KindId, OpId, Signature};
@@ -54,16 +55,16 @@ pub(crate) trait Values {
     fn are_free(&self, a: &Operand, b: &Operand) -> bool
         requires first { is_ready self.now (operand a.now) }
         requires second { is_ready self.now (operand b.now) }
-        ensures { result ≡ every (λ t. every (λ u. not (occurs t u)) (list_of (subst self.now) (operand b.now)))
+        ensures { result ≡ list_all (λ t. list_all (λ u. not (occurs t u)) (list_of (subst self.now) (operand b.now)))
             (list_of (subst self.now) (operand a.now)) };
 
     /// Whether each term is a symbol of the kind.
     fn are_in_kind(&self, sig: &Signature, kind: KindId, a: &Operand) -> bool
         requires { is_ready self.now (operand a.now) }
-        ensures { result ≡ every (in_kind sig.now kind.0) (list_of (subst self.now) (operand a.now)) };
+        ensures { result ≡ list_all (in_kind sig.now kind.0) (list_of (subst self.now) (operand a.now)) };
 
     /// Whether each term is an application of the operation.
     fn have_head(&self, op: OpId, a: &Operand) -> bool
         requires { is_ready self.now (operand a.now) }
-        ensures { result ≡ every (has_head op.0) (list_of (subst self.now) (operand a.now)) };
+        ensures { result ≡ list_all (has_head op.0) (list_of (subst self.now) (operand a.now)) };
 }

@@ -2,7 +2,7 @@
 use Rattle.std.specs.Prelude.{ℕ, Bool, true, false, ◌&&◌, ◌||◌, not, List, [], length, sum_by, Option, Some, None}
 use Rattle.std.specs.Prelude.{nat_eq, nat_lt, nat_le, if◌then◌else◌}
 use Rattle.std.specs.Ordering.{is_lt, eq_by_cmp}
-use Rattle.std.specs.List.{list_any}
+use Rattle.std.specs.List.{list_all}
 use Rattle.mp_term.specs.Tree.{Tree, symbol, app, Trees, no_trees, more_trees}
 use Rattle.mp_term.specs.Order.{tree_cmp}
 use Rattle.mp_term.specs.Size.{node_count}
@@ -69,10 +69,6 @@ abbrev mutual
   occurs_in t no_trees = false
   occurs_in t (more_trees u us) = occurs t u || occurs_in t us
 
--- the test passes on each term of the list
-abbrev pub every : (Tree → Bool) → List Tree → Bool
-every test ts = not (list_any (λ t. not (test t)) ts)
-
 module _ (sig : Sig) (s : Subst) where
   abbrev mutual
     -- the condition holds of s: each atom by its kind, and the connectives as usual
@@ -82,9 +78,9 @@ module _ (sig : Sig) (s : Subst) where
         || is_bag (value_at s b) then same_terms (sorted tree_cmp (list_of s a))
         (sorted tree_cmp (list_of s b)) else same_terms (list_of s a) (list_of s b)
     holds (less a b) = comes_before (value_at s a) (value_at s b)
-    holds (free a b) = every (λ t. every (λ u. not (occurs t u)) (list_of s b)) (list_of s a)
-    holds (of_kind a k) = every (in_kind sig k) (list_of s a)
-    holds (headed a f) = every (has_head f) (list_of s a)
+    holds (free a b) = list_all (λ t. list_all (λ u. not (occurs t u)) (list_of s b)) (list_of s a)
+    holds (of_kind a k) = list_all (in_kind sig k) (list_of s a)
+    holds (headed a f) = list_all (has_head f) (list_of s a)
     holds (negation c) = not (holds c)
     holds (all_of cs) = all_hold cs
     holds (any_of cs) = some_holds cs
