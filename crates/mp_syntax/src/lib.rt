@@ -12,7 +12,7 @@ pub use crate::condition::{condition_is_a_function, printed_condition_is_read, r
 pub use crate::expression::{
     expression_is_a_function, printed_expression_is_read, read_expression,
 };
-pub use crate::statement::{read_statement, read_statements};
+pub use crate::statement::{read_rule_end, read_statement, read_statements};
 pub use mp_parser::condition_tree::{
     Alternative, Amount, Atom, Condition, Literal, Measure, Property, Relation, Sense,
 };

@@ -12,7 +12,7 @@ ghost use Rattle.mp_syntax.specs.Printed.{statements_text, unplaced};
 ghost use Rattle.mp_parser.specs.View.{statement_tree};
 ghost use Rattle.mp_parser.specs.Parsing.{ahead};
 ghost use Rattle.mp_syntax.specs.StatementParsing.{StatementFrom, NamedExprGives, KeywordGives, FileGives};
-ghost use Rattle.mp_syntax.specs.StatementParsing.{keyword_step};
+ghost use Rattle.mp_syntax.specs.StatementParsing.{HeadingGives, RuleEndGives, keyword_step};
 ghost use Rattle.mp_syntax.specs.Begins.{OfFile};
 ghost use Rattle.mp_syntax.specs.FirstFault.{IsFirstFault};
 ghost use Rattle.mp_syntax.specs.Reading.{text_reading, IfFault, IsOkOrMemory};
@@ -20,6 +20,7 @@ ghost use Rattle.mp_syntax.specs.Reading.{text_reading, IfFault, IsOkOrMemory};
 use crate::bad_token::first_error;
 use bumpalo::Bump;
 use mp_parser::arena::Arena;
+use mp_parser::condition_tree::Condition;
 use mp_parser::fault::SyntaxError;
 use mp_parser::limits::MAX_OPEN;
 use mp_parser::parser::Parser;
@@ -199,8 +200,7 @@ fn kind<'a>(parser: &mut Parser<'a>, alloc: Global) -> Result<Statement<'a>, Syn
     ensures read { StatementFrom AfterKind result (ahead parser.old) (ahead parser.new) }
     ensures shorter { OnOk result (length (ahead parser.new) ≤ length (ahead parser.old)) }
 {
-    let name = parser.word()?;
-    parser.expect(Punct::Colon)?;
+    let name = heading(parser)?;
     let members = parser.members(alloc)?;
     Ok(Statement::Kind { name, members })
 }
@@ -213,15 +213,33 @@ fn rule<'a>(parser: &mut Parser<'a>, arena: &mut Arena<'a>) -> Result<Statement<
 {
     let (name, pattern) = named_expr(parser, arena)?;
     let pattern = arena.bump.try_alloc(pattern)?;
-    let template = parser.template(arena)?;
-    let condition = parser.rule_condition(arena)?;
-    parser.expect(Punct::Semicolon)?;
+    let (template, condition) = read_rule_end(parser, arena)?;
     Ok(Statement::Rule {
         name,
         pattern,
         template,
         condition,
     })
+}
+
+/// Reads what stands behind the pattern of a rule: its template and its condition, where it has them, and the
+/// semicolon. What an error leaves is as said of mp_parser's `Parser`.
+///
+/// - `SyntaxError::Memory` comes where memory runs out.
+/// - `SyntaxError::Fault` comes where the tokens don't end a rule, at the first that doesn't go on with its end.
+///
+/// The clause `read` is `RuleEndGives` of `specs/StatementParsing.antt`.
+pub fn read_rule_end<'a>(
+    parser: &mut Parser<'a>,
+    arena: &mut Arena<'a>,
+) -> Result<(Option<&'a Expr<'a>>, Option<Condition<'a>>), SyntaxError>
+    ensures read { RuleEndGives result (ahead parser.old) (ahead parser.new) }
+    ensures shorter { OnOk result (length (ahead parser.new) ≤ length (ahead parser.old)) }
+{
+    let template = parser.template(arena)?;
+    let condition = parser.rule_condition(arena)?;
+    parser.expect(Punct::Semicolon)?;
+    Ok((template, condition))
 }
 
 // Reads what follows `subject`: a name, a colon, an expression and the semicolon.
@@ -239,8 +257,7 @@ fn edit<'a>(parser: &mut Parser<'a>, arena: &mut Arena<'a>) -> Result<Statement<
     ensures read { StatementFrom AfterEdit result (ahead parser.old) (ahead parser.new) }
     ensures shorter { OnOk result (length (ahead parser.new) ≤ length (ahead parser.old)) }
 {
-    let subject = parser.word()?;
-    parser.expect(Punct::Colon)?;
+    let subject = heading(parser)?;
     let changes = parser.changes(arena)?;
     Ok(Statement::Edit { subject, changes })
 }
@@ -253,10 +270,19 @@ fn named_expr<'a>(
     ensures read { NamedExprGives result (ahead parser.old) (ahead parser.new) }
     ensures shorter { OnOk result (length (ahead parser.new) ≤ length (ahead parser.old)) }
 {
-    let name = parser.word()?;
-    parser.expect(Punct::Colon)?;
+    let name = heading(parser)?;
     let expr = parser.expr(arena, MAX_OPEN)?;
     Ok((name, expr))
+}
+
+// Reads a name and a colon.
+fn heading<'a>(parser: &mut Parser<'a>) -> Result<Word<'a>, SyntaxError>
+    ensures read { HeadingGives result (ahead parser.old) (ahead parser.new) }
+    ensures shorter { OnOk result (length (ahead parser.new) ≤ length (ahead parser.old)) }
+{
+    let name = parser.word()?;
+    parser.expect(Punct::Colon)?;
+    Ok(name)
 }
 
 // Reads the word that a statement begins with, where the end is not held.
