@@ -1,5 +1,5 @@
 -- The records that the nodes and the variables of a plan are read as.
-use Rattle.std.specs.Prelude.{ℕ, List, map, Option}
+use Rattle.std.specs.Prelude.{ℕ, List, map, Option, None}
 use Rattle.mp_pattern.specs.Value as plain_value
 use Rattle.mp_pattern.specs.Plan as plain
 use Rattle.mp_pattern.specs.declared.entry.Form.{Form}
@@ -28,6 +28,12 @@ abbrev pub variable_label : Pattern → Option ℕ → plain.Label
 variable_label (symbol_pattern s) x = plain.symbol_label s
 variable_label (app_pattern f ps) x = plain.app_label f
 variable_label (wild_pattern w y) x = plain.wild_label w x
+
+-- the number among xs of the variable of the root of a pattern, where the root is a wildcard that has one
+abbrev pub root_variable : List (List ℕ) → Pattern → Option ℕ
+root_variable xs (symbol_pattern s) = None
+root_variable xs (app_pattern f ps) = None
+root_variable xs (wild_pattern w x) = plain.variable_number xs x
 
 -- what is kept of a node: the number of the node after its subpattern, that of its parent, and that of its variable
 pub record Kept : Type 0 where

@@ -10,8 +10,8 @@ ghost use Rattle.mp_pattern.specs.Value.{same_name};
 ghost use Rattle.mp_pattern.specs.PatternTree.{is_sequence};
 ghost use Rattle.mp_pattern.specs.Variables.{uses, variables, comm_above, form_among};
 ghost use Rattle.mp_pattern.specs.Clash.{first_clash_after};
-ghost use Rattle.mp_pattern.specs.Plan.{nodes, variable_number, IsPlanOf};
-ghost use Rattle.mp_pattern.specs.PlanView.{form, kept_of, names_of, stored, variable};
+ghost use Rattle.mp_pattern.specs.Plan.{nodes, IsPlanOf};
+ghost use Rattle.mp_pattern.specs.PlanView.{form, kept_of, names_of, root_variable, stored, variable};
 ghost use Rattle.mp_pattern.specs.UseView.{occurrence};
 ghost use Rattle.mp_pattern.specs.PlanFault.{plan_fault, IsCompiled, OrMemory};
 
@@ -80,17 +80,17 @@ fn index_of(names: &[&Name], name: &Name) -> Option<usize>
     None
 }
 
-// The number of the variable among the names, from 0.
-fn variable_number(names: &[&Name], variable: &Option<Name>) -> Option<u32>
+// The number of the root's variable among the names, from 0, where the root is a wildcard that has one.
+fn root_variable(names: &[&Name], pattern: &Pattern) -> Option<u32>
     requires { length names.now ≤ MAX_VARIABLES }
-    ensures { result ≡ variable_number (map (λ n. n.now) names.now) variable.now }
+    ensures { result ≡ root_variable (map (λ n. n.now) names.now) (pattern_tree pattern.now) }
 {
-    match variable {
-        None => None,
-        Some(name) => match index_of(names, name) {
+    match pattern {
+        Pattern::Wild(_, Some(name)) => match index_of(names, name) {
             None => None,
             Some(index) => Some(index as u32),
         },
+        _ => None,
     }
 }
 
@@ -101,8 +101,9 @@ fn push_node(
     parent: Option<u32>,
     variable: Option<u32>,
 ) -> Result<(), Memory>
-    ensures { OnOk result (map stored out.new.items
+    ensures nodes { OnOk result (map stored out.new.items
         ≡ map stored out.old.items ++ record { end = end; parent = parent; variable = variable } ∷ []) }
+    ensures count { OnOk result (length out.new.items ≡ length out.old.items + 1) }
 {
     out.push(Node {
         end,
@@ -128,19 +129,14 @@ fn push_nodes(
         (length out.new.items ≡ length out.old.items + pattern_nodes (pattern_tree pattern.now)) }
 {
     let number = out.len() as u32;
-    match pattern {
-        Pattern::Sym(_) => push_node(out, number + 1, parent, None),
-        Pattern::App(_, args) => {
-            push_node(out, number + node_count(pattern), parent, None)?;
-            for arg in &args.items {
-                push_nodes(out, names, arg, Some(number))?;
-            }
-            Ok(())
-        }
-        Pattern::Wild(_, variable) => {
-            push_node(out, number + 1, parent, variable_number(names, variable))
+    let variable = root_variable(names, pattern);
+    push_node(out, number + node_count(pattern), parent, variable)?;
+    if let Pattern::App(_, args) = pattern {
+        for arg in &args.items {
+            push_nodes(out, names, arg, Some(number))?;
         }
     }
+    Ok(())
 }
 
 // The variable has a plus, star or counted wildcard.
@@ -186,6 +182,21 @@ fn form_among(sig: &Signature, occurrences: &[Occurrence<'_>], name: &Name) -> F
     }
 }
 
+// The variable of this name with its form.
+fn variable_of(
+    alloc: Global,
+    sig: &Signature,
+    occurrences: &[Occurrence<'_>],
+    name: &Name,
+) -> Result<Variable, Memory>
+    ensures { IfOk result (λ v. variable v
+        ≡ record { name = name.now; form = form_among sig.now (map occurrence occurrences.now) name.now }) }
+{
+    let form = form_among(sig, occurrences, name);
+    let name = name.copy(alloc)?;
+    Ok(Variable { name, form })
+}
+
 // The variables of these names with their forms.
 fn variables_of(
     alloc: Global,
@@ -200,9 +211,7 @@ fn variables_of(
 {
     let mut variables = Vec::with_capacity(alloc, names.len())?;
     for name in names {
-        let form = form_among(sig, occurrences, name);
-        let name = name.copy(alloc)?;
-        variables.push(Variable { name, form })?;
+        variables.push(variable_of(alloc, sig, occurrences, name)?)?;
     }
     Ok(variables)
 }
@@ -229,6 +238,19 @@ fn fault(outline: &Outline<'_>) -> Option<PlanFault>
     }
 }
 
+// What is kept of the nodes of the pattern, as the names number its variables.
+fn nodes_of(alloc: Global, names: &[&Name], pattern: &Pattern) -> Result<Vec<Node>, Memory>
+    requires variables { length names.now ≤ MAX_VARIABLES }
+    requires few { pattern_nodes (pattern_tree pattern.now) ≤ MAX_PATTERN_NODES }
+    ensures nodes { IfOk result (λ ns. map stored ns.items
+        ≡ map kept_of (nodes (map (λ n. n.now) names.now) None 0 (pattern_tree pattern.now))) }
+    ensures count { IfOk result (λ ns. length ns.items ≡ pattern_nodes (pattern_tree pattern.now)) }
+{
+    let mut nodes = Vec::with_capacity(alloc, node_count(pattern) as usize)?;
+    push_nodes(&mut nodes, names, pattern, None)?;
+    Ok(nodes)
+}
+
 // The plan of the pattern, which has this outline and no fault.
 fn build(
     alloc: Global,
@@ -242,8 +264,7 @@ fn build(
     requires names { map (λ n. n.now) outline.now.names.items ≡ variables (pattern_tree pattern.now) }
     ensures { IfOk result (λ plan. IsPlanOf sig.now (pattern_tree pattern.now) plan) }
 {
-    let mut nodes = Vec::with_capacity(alloc, node_count(pattern) as usize)?;
-    push_nodes(&mut nodes, &outline.names, pattern, None)?;
+    let nodes = nodes_of(alloc, &outline.names, pattern)?;
     let variables = variables_of(alloc, sig, &outline.occurrences, &outline.names)?;
     let pattern = copy_pattern(alloc, pattern)?;
     Ok(Plan {

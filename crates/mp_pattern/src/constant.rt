@@ -1,5 +1,6 @@
 //! The constants of rules: the terms that their patterns and conditions bring to a match beside the subject.
 ghost use Rattle.std.specs.Prelude.{◌≡◌, ◌∷◌, ◌++◌, [], map, flat_map, OnOk, IfOk, Contains, option_map};
+ghost use Rattle.mp_term.specs.Tree.{symbol};
 ghost use Rattle.mp_term.specs.View.{tree};
 ghost use Rattle.mp_term.specs.Order.{tree_cmp};
 ghost use Rattle.mp_term.specs.Listing.{IsListing};
@@ -12,8 +13,24 @@ ghost use Rattle.mp_pattern.specs.Constants.{pattern_constants, ground_term, rul
 use crate::condition::{Amount, Cond, Operand};
 use crate::pattern::{Pattern, Shape};
 use crate::rule::{Rule, Rules};
-use mp_term::{Memory, Term, Terms, copy_term};
+use mp_term::{Memory, Name, Term, Terms, copy_term};
 use std::alloc::Global;
+
+// Adds the symbol of the name.
+fn push_symbol(alloc: Global, found: &mut Vec<Term>, name: &Name) -> Result<(), Memory>
+    ensures { OnOk result (map tree found.new.items ≡ map tree found.old.items ++ symbol name.now ∷ []) }
+{
+    let symbol = Term::Sym(name.copy(alloc)?);
+    Ok(found.push(symbol)?)
+}
+
+// Adds a copy of the term.
+fn push_copy(alloc: Global, found: &mut Vec<Term>, term: &Term) -> Result<(), Memory>
+    ensures { OnOk result (map tree found.new.items ≡ map tree found.old.items ++ tree term.now ∷ []) }
+{
+    let copy = copy_term(alloc, term)?;
+    Ok(found.push(copy)?)
+}
 
 /// Adds the symbols and the defaults of a pattern, in preorder, each as often as it stands there: `pattern_constants`
 /// of `specs/Constants.antt`. `Memory` comes where there is no room for them.
@@ -26,16 +43,16 @@ pub fn push_pattern_constants(
         ≡ map tree found.old.items ++ pattern_constants (pattern_tree pattern.now)) }
 {
     match pattern {
-        Pattern::Sym(name) => found.push(Term::Sym(name.copy(alloc)?))?,
+        Pattern::Sym(name) => push_symbol(alloc, found, name),
         Pattern::App(_, args) => {
             for arg in &args.items {
                 push_pattern_constants(alloc, found, arg)?;
             }
+            Ok(())
         }
-        Pattern::Wild(Shape::Opt(default), _) => found.push(copy_term(alloc, default)?)?,
-        Pattern::Wild(_, _) => {}
+        Pattern::Wild(Shape::Opt(default), _) => push_copy(alloc, found, default),
+        Pattern::Wild(_, _) => Ok(()),
     }
-    Ok(())
 }
 
 // Adds the term of a ground operand.
@@ -43,10 +60,10 @@ fn push_operand(alloc: Global, found: &mut Vec<Term>, source: &Operand) -> Resul
     ensures { OnOk result (map tree found.new.items
         ≡ map tree found.old.items ++ ground_term (operand source.now)) }
 {
-    if let Operand::Ground(term) = source {
-        found.push(copy_term(alloc, term)?)?;
+    match source {
+        Operand::Var(_) => Ok(()),
+        Operand::Ground(term) => push_copy(alloc, found, term),
     }
-    Ok(())
 }
 
 // Adds the terms of two ground operands.

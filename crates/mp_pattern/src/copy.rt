@@ -1,5 +1,6 @@
 //! Copies of patterns and conditions.
 ghost use Rattle.std.specs.Prelude.{◌≡◌, IfOk};
+ghost use Rattle.mp_pattern.specs.PatternTree.{wild_pattern};
 ghost use Rattle.mp_pattern.specs.View.{wildcard, pattern_tree};
 ghost use Rattle.mp_pattern.specs.CondView.{operand, amount, cond_tree};
 
@@ -35,24 +36,36 @@ fn copy_variable(alloc: Global, variable: &Option<Name>) -> Result<Option<Name>,
     }
 }
 
+// An equal wildcard with an equal name of its variable, as a pattern.
+fn copy_wildcard(alloc: Global, shape: &Shape, variable: &Option<Name>) -> Result<Pattern, Memory>
+    ensures { IfOk result (λ p. pattern_tree p ≡ wild_pattern (wildcard shape.now) variable.now) }
+{
+    let shape = copy_shape(alloc, shape)?;
+    Ok(Pattern::Wild(shape, copy_variable(alloc, variable)?))
+}
+
 /// An equal pattern: one of the same tree. `Memory` comes where there is no room for it.
+#[cycle(copy_pattern)]
 pub fn copy_pattern(alloc: Global, pattern: &Pattern) -> Result<Pattern, Memory>
     ensures { IfOk result (λ p. pattern_tree p ≡ pattern_tree pattern.now) }
 {
     match pattern {
         Pattern::Sym(name) => Ok(Pattern::Sym(name.copy(alloc)?)),
-        Pattern::App(op, args) => {
-            let mut copies = Patterns::with_room(alloc, args.len())?;
-            for arg in &args.items {
-                copies.push(copy_pattern(alloc, arg)?)?;
-            }
-            Ok(Pattern::App(*op, copies))
-        }
-        Pattern::Wild(shape, variable) => {
-            let shape = copy_shape(alloc, shape)?;
-            Ok(Pattern::Wild(shape, copy_variable(alloc, variable)?))
-        }
+        Pattern::App(op, args) => Ok(Pattern::App(*op, copy_patterns(alloc, args)?)),
+        Pattern::Wild(shape, variable) => copy_wildcard(alloc, shape, variable),
     }
+}
+
+// An equal list of patterns.
+#[cycle(copy_pattern)]
+fn copy_patterns(alloc: Global, parts: &Patterns) -> Result<Patterns, Memory>
+    ensures { IfOk result (λ ps. ps ≡ parts.now) }
+{
+    let mut copies = Patterns::with_room(alloc, parts.len())?;
+    for part in &parts.items {
+        copies.push(copy_pattern(alloc, part)?)?;
+    }
+    Ok(copies)
 }
 
 // An equal operand.

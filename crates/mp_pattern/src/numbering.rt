@@ -1,10 +1,11 @@
 //! Patterns with their variables named by numbers.
-ghost use Rattle.std.specs.Prelude.{◌≡◌, IfOk, option_map};
+ghost use Rattle.std.specs.Prelude.{◌≡◌, IfOk, map, option_map};
 ghost use Rattle.mp_pattern.specs.NetTokens.{number_in, numbered, renamed};
-ghost use Rattle.mp_pattern.specs.View.{pattern_tree};
+ghost use Rattle.mp_pattern.specs.PatternTree.{wild_pattern};
+ghost use Rattle.mp_pattern.specs.View.{wildcard, pattern_tree};
 
 use crate::copy::copy_shape;
-use crate::pattern::{Pattern, Patterns};
+use crate::pattern::{Pattern, Patterns, Shape};
 use itoa::write_digits;
 use mp_term::{Memory, Name, NameFault, Names};
 use std::alloc::Global;
@@ -77,24 +78,42 @@ fn renamed_variable(
     }
 }
 
+// A copy of the wildcard with its variable so named, as a pattern.
+fn renamed_wildcard(
+    alloc: Global,
+    names: &Names,
+    shape: &Shape,
+    variable: &Option<Name>,
+) -> Result<Pattern, Memory>
+    ensures { IfOk result (λ p. pattern_tree p
+        ≡ wild_pattern (wildcard shape.now) (option_map (λ y. numbered (number_in names.now y)) variable.now)) }
+{
+    let shape = copy_shape(alloc, shape)?;
+    Ok(Pattern::Wild(shape, renamed_variable(alloc, names, variable)?))
+}
+
 /// A copy of the pattern with its variables named by their numbers among the names (`renamed` of
 /// `specs/NetTokens.antt`). `Memory` comes where there is no room for it, or where the number of a variable is beyond
 /// `u32::MAX`.
+#[cycle(renamed)]
 pub fn renamed(alloc: Global, names: &Names, pattern: &Pattern) -> Result<Pattern, Memory>
     ensures { IfOk result (λ p. pattern_tree p ≡ renamed names.now (pattern_tree pattern.now)) }
 {
     match pattern {
         Pattern::Sym(name) => Ok(Pattern::Sym(name.copy(alloc)?)),
-        Pattern::App(op, args) => {
-            let mut copies = Patterns::with_room(alloc, args.len())?;
-            for arg in &args.items {
-                copies.push(renamed(alloc, names, arg)?)?;
-            }
-            Ok(Pattern::App(*op, copies))
-        }
-        Pattern::Wild(shape, variable) => {
-            let shape = copy_shape(alloc, shape)?;
-            Ok(Pattern::Wild(shape, renamed_variable(alloc, names, variable)?))
-        }
+        Pattern::App(op, args) => Ok(Pattern::App(*op, all_renamed(alloc, names, args)?)),
+        Pattern::Wild(shape, variable) => renamed_wildcard(alloc, names, shape, variable),
     }
+}
+
+// Copies of the patterns with their variables so named.
+#[cycle(renamed)]
+fn all_renamed(alloc: Global, names: &Names, parts: &Patterns) -> Result<Patterns, Memory>
+    ensures { IfOk result (λ ps. ps ≡ map (renamed names.now) parts.now) }
+{
+    let mut copies = Patterns::with_room(alloc, parts.len())?;
+    for part in &parts.items {
+        copies.push(renamed(alloc, names, part)?)?;
+    }
+    Ok(copies)
 }

@@ -63,6 +63,15 @@ fn push_subpatterns<'a>(out: &mut Vec<&'a Pattern>, pattern: &'a Pattern) -> Res
     Ok(())
 }
 
+// The subpatterns of the pattern in preorder.
+fn subpatterns_of<'a>(alloc: Global, pattern: &'a Pattern) -> Result<Vec<&'a Pattern>, AllocError>
+    ensures { IfOk result (λ ps. map (λ p. pattern_tree p.now) ps.items ≡ subpatterns (pattern_tree pattern.now)) }
+{
+    let mut patterns = Vec::with_capacity(alloc, node_count(pattern) as usize)?;
+    push_subpatterns(&mut patterns, pattern)?;
+    Ok(patterns)
+}
+
 // Adds the occurrences of variables in the pattern, which stands under the operation, in preorder.
 fn push_occurrences<'a>(
     out: &mut Vec<Occurrence<'a>>,
@@ -169,8 +178,7 @@ pub(crate) fn outline_of<'a>(alloc: Global, pattern: &'a Pattern) -> Result<Outl
     let mut occurrences = Vec::new(alloc);
     push_occurrences(&mut occurrences, pattern, None)?;
     let names = first_names(alloc, &occurrences)?;
-    let mut patterns = Vec::with_capacity(alloc, node_count(pattern) as usize)?;
-    push_subpatterns(&mut patterns, pattern)?;
+    let patterns = subpatterns_of(alloc, pattern)?;
     Ok(Outline {
         occurrences,
         names,

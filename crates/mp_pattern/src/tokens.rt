@@ -1,14 +1,15 @@
 //! The net tokens of a pattern.
-ghost use Rattle.std.specs.Prelude.{◌≡◌, ◌++◌, OnOk, IfOk};
+ghost use Rattle.std.specs.Prelude.{◌≡◌, ◌∷◌, ◌++◌, [], OnOk, IfOk, option_map};
+ghost use Rattle.mp_pattern.specs.PatternTree.{patterns};
 ghost use Rattle.mp_pattern.specs.View.{wildcard, pattern_tree};
-ghost use Rattle.mp_pattern.specs.NetTokens.{wild_token, tokens, tokens_of};
+ghost use Rattle.mp_pattern.specs.NetTokens.{all_tokens, number_in, wild_token, tokens, tokens_of};
 ghost use Rattle.mp_pattern.specs.NetTokenView.{net_token};
 
 use crate::first_names::variable_names;
 use crate::net_token::{NetToken, NetTokens};
 use crate::numbering::{renamed, variable_number};
-use crate::pattern::{Pattern, Shape};
-use mp_term::{Memory, Names, Signature, copy_term};
+use crate::pattern::{Pattern, Patterns, Shape};
+use mp_term::{Memory, Name, Names, Signature, copy_term};
 use std::alloc::Global;
 
 /// The token of a wildcard with this number of its variable (`wild_token` of `specs/NetTokens.antt`). `Memory` comes
@@ -26,7 +27,23 @@ pub fn wild_token(alloc: Global, shape: &Shape, number: Option<u32>) -> Result<N
     }
 }
 
+// Adds the token of the wildcard, as the names number its variable.
+fn push_wildcard(
+    alloc: Global,
+    names: &Names,
+    shape: &Shape,
+    variable: &Option<Name>,
+    out: &mut NetTokens,
+) -> Result<(), Memory>
+    ensures { OnOk result (out.new
+        ≡ out.old ++ wild_token (wildcard shape.now) (option_map (number_in names.now) variable.now) ∷ []) }
+{
+    let number = variable_number(names, variable)?;
+    out.push(wild_token(alloc, shape, number)?)
+}
+
 // Adds the tokens of the pattern, as the names number its variables.
+#[cycle(push_tokens)]
 fn push_tokens(
     alloc: Global,
     sig: &Signature,
@@ -44,16 +61,28 @@ fn push_tokens(
                 return out.push(NetToken::Comm(renamed(alloc, names, pattern)?));
             }
             out.push(NetToken::Enter(*op))?;
-            for arg in &args.items {
-                push_tokens(alloc, sig, names, arg, out)?;
-            }
+            push_all_tokens(alloc, sig, names, args, out)?;
             out.push(NetToken::Leave(*op))
         }
-        Pattern::Wild(shape, variable) => {
-            let number = variable_number(names, variable)?;
-            out.push(wild_token(alloc, shape, number)?)
-        }
+        Pattern::Wild(shape, variable) => push_wildcard(alloc, names, shape, variable, out),
     }
+}
+
+// Adds those of the patterns, one after the other.
+#[cycle(push_tokens)]
+fn push_all_tokens(
+    alloc: Global,
+    sig: &Signature,
+    names: &Names,
+    parts: &Patterns,
+    out: &mut NetTokens,
+) -> Result<(), Memory>
+    ensures { OnOk result (out.new ≡ out.old ++ all_tokens sig.now names.now (patterns parts.now)) }
+{
+    for part in &parts.items {
+        push_tokens(alloc, sig, names, part, out)?;
+    }
+    Ok(())
 }
 
 /// The net tokens of the pattern of a rule (`tokens_of` of `specs/NetTokens.antt`). A symbol and a wildcard have one
