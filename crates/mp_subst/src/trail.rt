@@ -1,9 +1,9 @@
 //! Trails: the values of variables, which can be taken back.
 ghost use Rattle.std.specs.Prelude.{◌≡◌, ◌≤◌, ◌<◌, ◌+◌, ◌++◌, [], length, take, drop, slice_index_or, slice_set};
 ghost use Rattle.std.specs.Prelude.{IfOk, IfSome, option_map, vec_capacity};
-ghost use Rattle.mp_table.specs.Table.{Table as plain_table};
-ghost use Rattle.mp_subst.specs.View.{subst_of};
-ghost use Rattle.mp_subst.specs.Bound.{bound_of, IsBoundIn};
+ghost use Rattle.mp_table.specs.Table.{Table as plain_table, HasRanks};
+ghost use Rattle.mp_subst.specs.View.{binding_of, subst_of};
+ghost use Rattle.mp_subst.specs.Bound.{bound_of, value_in, AreRanksOf, IsBoundIn};
 ghost use Rattle.mp_subst.specs.Trail.{length_at, cut, last_value, GoesWith, subst_in};
 ghost use Rattle.mp_subst.specs.TrailView.{entry_value, last_place, IsWithin, AreLast, AreEarlier};
 
@@ -11,7 +11,7 @@ use crate::bound::Bound;
 use crate::subst::{Binding, Bindings, Subst};
 use mp_pattern::{Form, Plan};
 use mp_table::{Rank, Table};
-use mp_term::{Memory, OpId};
+use mp_term::{Memory, Name, OpId};
 use std::alloc::Global;
 use std::marker::Model;
 
@@ -137,6 +137,23 @@ pub(crate) fn bound_at<'a>(ranks: &'a [Rank], entry: &Entry) -> Bound<'a>
         wrap: entry.wrap,
         ranks: &ranks[entry.start as usize..entry.end as usize],
     }
+}
+
+// The binding of a variable of this name to the value that a bound stands for.
+fn binding_of(
+    alloc: Global,
+    table: &Table,
+    name: &Name,
+    bound: &Bound<'_>,
+) -> Result<Binding, Memory>
+    requires ranks { HasRanks table.now bound.now.ranks.now }
+    requires formed { AreRanksOf (bound_of bound.now).form (bound_of bound.now).wrap bound.now.ranks.now }
+    ensures { IfOk result
+        (λ b. binding_of b ≡ record { name = name.now; value = value_in table.now (bound_of bound.now) }) }
+{
+    let name = name.copy(alloc)?;
+    let value = bound.to_value(alloc, table)?;
+    Ok(Binding { name, value })
 }
 
 // Writes items into a list from a place on, in its room: over what stands there, and then at the end.
@@ -275,9 +292,7 @@ impl Trail {
             let Some(name) = plan.var_name(var) else {
                 unreachable!()
             };
-            let name = name.copy(alloc)?;
-            let value = bound.to_value(alloc, table)?;
-            bindings.push(Binding { name, value })?;
+            bindings.push(binding_of(alloc, table, name, &bound)?)?;
         }
         Ok(Subst { bindings })
     }

@@ -7,11 +7,11 @@ use Rattle.mp_subst.proofs.TrailLaws.{item_at}
 use Rattle.mp_subst.proofs.TrailSubst.{past_unbound, past_bound}
 use Rattle.mp_subst.proofs.trail.Trail.to_subst.Goals as goal
 
-pub to_value-requires-clause-ranks : goal.to_value-requires-clause-ranks
-to_value-requires-clause-ranks c = (c.in-Some.ensures.is_bound c.args.table.now c.requires).ranks
+pub binding_of-requires-clause-ranks : goal.binding_of-requires-clause-ranks
+binding_of-requires-clause-ranks c = (c.in-Some.ensures.is_bound c.args.table.now c.requires).ranks
 
-pub to_value-requires-clause-formed : goal.to_value-requires-clause-formed
-to_value-requires-clause-formed c = (c.in-Some.ensures.is_bound c.args.table.now c.requires).formed
+pub binding_of-requires-clause-formed : goal.binding_of-requires-clause-formed
+binding_of-requires-clause-formed c = (c.in-Some.ensures.is_bound c.args.table.now c.requires).formed
 
 pub loop-var-preserved-in_default : goal.loop-var-preserved-in_default
 loop-var-preserved-in_default c =
@@ -43,9 +43,7 @@ loop-var-preserved c =
     let named = ap (option_map (λ m. m.now)) (sym c.in-Some-var_name.is) ∙ c.var_name.ensures in
     let own : Binding = record { name = name; value = value_in table bound } in
     let rest = bindings_from table es (n + 1) (drop (n + 1) xs) in
-    let pushed = c.in_ok-push.ensures.ok
-    ∙ ap (λ v. c.loop-var.bindings ++ record { name = c.in_ok-name.name; value = v } ∷ []) c.in_ok-value.ensures
-    ∙ ap (λ m. c.loop-var.bindings ++ record { name = m; value = value_in table bound } ∷ []) c.in_ok-name.ensures in
+    let pushed = c.in_ok-push.ensures.ok ∙ ap (λ b. c.loop-var.bindings ++ b ∷ []) c.in_ok-binding_of.ensures in
     ap (λ bs. bs ++ rest) pushed ∙ append_assoc c.loop-var.bindings (own ∷ []) rest
     ∙ ap (λ s. c.loop-var.bindings ++ s) (sym (past_bound table es xs n below name bound named last))
     ∙ c.loop-var.invariant
