@@ -3,7 +3,6 @@
 #![tactic(auto)]
 
 mod amount;
-mod app_order;
 mod condition;
 mod deciding;
 mod laws;

@@ -12,11 +12,10 @@ ghost use Rattle.mp_table.specs.Table as plain_table;
 ghost use Rattle.mp_table.specs.Table.{terms_at, HasRanks, IsTable};
 ghost use Rattle.mp_cond.specs.Ranked.{value_at, IsIn};
 
-use crate::app_order::{compare_apps, compare_with_app};
 use crate::ranked::Ranked;
 use crate::{rank_lists, rank_subterm};
 use mp_subst::same_rank_multiset;
-use mp_table::{Rank, Table};
+use mp_table::{Rank, Table, compare_apps};
 use mp_term::{KindId, OpId, Signature};
 
 // How many terms the value has.
@@ -88,10 +87,10 @@ pub(crate) fn comes_before(table: &Table, a: &Ranked<'_>, b: &Ranked<'_>) -> boo
     match (a, b) {
         (Ranked::One(rank), Ranked::One(other)) => rank < other,
         (Ranked::One(rank), Ranked::Wrap(op, ranks)) => {
-            compare_with_app(table, *rank, *op, ranks).is_lt()
+            table.compare_app(*rank, *op, ranks).is_lt()
         }
         (Ranked::Wrap(op, ranks), Ranked::One(rank)) => {
-            compare_with_app(table, *rank, *op, ranks).is_gt()
+            table.compare_app(*rank, *op, ranks).is_gt()
         }
         (Ranked::Wrap(f, ranks), Ranked::Wrap(g, others)) => {
             compare_apps(*f, ranks, *g, others).is_lt()

@@ -17,4 +17,5 @@ mod table;
 pub use laws::{pieces_of_ranks_are_pieces_of_terms, ranks_compare_as_their_terms};
 pub use limits::MAX_CONSTANT_NODES;
 pub use rank::{Head, Rank};
+pub use search::compare_apps;
 pub use table::Table;

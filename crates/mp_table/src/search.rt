@@ -1,11 +1,11 @@
 //! The search for a term in a table.
 ghost use Rattle.std.specs.Prelude.{◌≡◌, map, option_map};
-ghost use Rattle.std.specs.List.Sorted.{IsStrictlySortedBy};
 ghost use Rattle.mp_term.specs.Tree.{symbol, app, trees};
 ghost use Rattle.mp_term.specs.View.{tree};
 ghost use Rattle.mp_term.specs.Order.{tree_cmp, shortlex};
 ghost use Rattle.mp_table.specs.Sought.{sought_tree, IsSought};
-ghost use Rattle.mp_table.specs.Table.{term_at, terms_at, HasRank, HasRanks, rank_of};
+ghost use Rattle.mp_table.specs.Table as plain;
+ghost use Rattle.mp_table.specs.Table.{term_at, terms_at, HasRank, HasRanks, IsTable, rank_of};
 
 use crate::rank::{Head, Rank};
 use crate::table::Table;
@@ -18,6 +18,21 @@ enum Sought<'a> {
     Term(&'a Term),
     Symbol(&'a Name),
     App(OpId, &'a [Rank]),
+}
+
+/// The application of an operation to the terms of ranks beside another one, in the term order: it is the same in each
+/// table that has the ranks. It takes no memory.
+pub fn compare_apps(f: OpId, ranks: &[Rank], g: OpId, others: &[Rank]) -> Ordering
+    ensures { (t : plain.Table) → IsTable t → HasRanks t ranks.now → HasRanks t others.now →
+        result ≡ tree_cmp (app f.0 (trees (terms_at t ranks.now))) (app g.0 (trees (terms_at t others.now))) }
+{
+    if f.0 != g.0 {
+        return f.0.cmp(&g.0);
+    }
+    if ranks.len() != others.len() {
+        return ranks.len().cmp(&others.len());
+    }
+    ranks.cmp(others)
 }
 
 impl Table {
@@ -58,25 +73,18 @@ impl Table {
         Ordering::Equal
     }
 
-    // The term of a rank beside an application of the operation to the terms of ranks.
-    fn compare_app(&self, rank: Rank, op: OpId, ranks: &[Rank]) -> Ordering
-        requires ascending { IsStrictlySortedBy tree_cmp self.now.terms }
+    /// The term of a rank beside the application of an operation to the terms of ranks, in the term order. Each rank
+    /// must be below `len`. It takes no memory.
+    pub fn compare_app(&self, rank: Rank, op: OpId, ranks: &[Rank]) -> Ordering
         requires rank { HasRank self.now rank }
         requires ranks { HasRanks self.now ranks.now }
         ensures { result ≡ tree_cmp (term_at self.now rank) (app op.0 (trees (terms_at self.now ranks.now))) }
     {
+        // What holds of each table.
+        self.len();
         match self.head(rank) {
             Head::Sym(_) => Ordering::Less,
-            Head::App(own) => {
-                if own.0 != op.0 {
-                    return own.0.cmp(&op.0);
-                }
-                let args = self.args(rank);
-                if args.len() != ranks.len() {
-                    return args.len().cmp(&ranks.len());
-                }
-                args.cmp(ranks)
-            }
+            Head::App(own) => compare_apps(own, self.args(rank), op, ranks),
         }
     }
 
@@ -94,7 +102,6 @@ impl Table {
     // The term of a rank beside what is looked for.
     #[inline(always)]
     fn compare(&self, rank: Rank, sought: &Sought<'_>) -> Ordering
-        requires ascending { IsStrictlySortedBy tree_cmp self.now.terms }
         requires rank { HasRank self.now rank }
         requires sought { IsSought self.now sought.now }
         ensures { result ≡ tree_cmp (term_at self.now rank) (sought_tree self.now sought.now) }

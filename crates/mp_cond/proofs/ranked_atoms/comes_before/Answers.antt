@@ -18,5 +18,5 @@ returns-in-Wrap-One c =
     let t = c.args.table.now in
     let w = app_at t c.in-Wrap-One.op c.in-Wrap-One.ranks.now in
     let u = term_at t c.in-Wrap-One.rank in
-    rw (c.in-Wrap-One.is-0, c.in-Wrap-One.is-1) (c.is_gt.ensures ∙ ap is_gt c.compare_with_app-in-Wrap-One.ensures
+    rw (c.in-Wrap-One.is-0, c.in-Wrap-One.is-1) (c.is_gt.ensures ∙ ap is_gt c.compare_app-in-Wrap-One.ensures
     ∙ is_gt-reverse _ _ (tree_cmp_total.antisymm w u))

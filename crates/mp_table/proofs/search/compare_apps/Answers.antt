@@ -7,7 +7,7 @@ use Rattle.mp_term.specs.Order.{tree_cmp}
 use Rattle.mp_term.specs.OrderLaws.{app_cmp-same_head}
 use Rattle.mp_table.specs.Table.{term_at, terms_at}
 use Rattle.mp_table.proofs.RankLaws.{ranks_cmp, differs}
-use Rattle.mp_cond.proofs.app_order.compare_apps.Goals as goal
+use Rattle.mp_table.proofs.search.compare_apps.Goals as goal
 
 pub returns-then-ranks-others : goal.returns-then-ranks-others
 returns-then-ranks-others c t is h k =
