@@ -61,13 +61,11 @@ fn enter<'a>(
 {
     let Turn {
         heads,
-        below,
+        mut below,
         behind,
     } = turn;
     let first = rules.len() as u32;
-    for list in below {
-        rules.push(list)?;
-    }
+    rules.append(&mut below)?;
     let other = if behind.is_empty() {
         None
     } else {
