@@ -5,8 +5,8 @@ ghost use Rattle.mp_term.specs.Order.{tree_cmp};
 ghost use Rattle.mp_term.specs.Sorting.{sorted};
 ghost use Rattle.mp_term.specs.Signature.{Sig, all_in_order, is_comm, is_one, well_formed};
 ghost use Rattle.mp_term.specs.Size.{node_count, depth};
-ghost use Rattle.mp_term.specs.Tree.{Tree};
-ghost use Rattle.mp_term.specs.Normal.{parts, collapsed, normal, IsNormal};
+ghost use Rattle.mp_term.specs.Tree.{Tree, trees};
+ghost use Rattle.mp_term.specs.Normal.{parts, flattened, collapsed, normal, normals, IsNormal};
 ghost use Rattle.mp_term.specs.NormalTest.{ascending, has_head, is_single, passes};
 
 use crate::memory::Memory;
@@ -54,22 +54,33 @@ fn collapse(sig: &Signature, op: OpId, mut args: Terms) -> Term
 /// The normal form of any term, in one pass from the leaves up (`normal` of `specs/Normal.antt`), whatever operations
 /// it has and however many arguments they have. `Memory` comes where there is no room for the flattened lists; the term
 /// is then dropped.
+#[cycle(normal_form)]
 pub fn normal_form(alloc: Global, sig: &Signature, term: Term) -> Result<Term, Memory>
     ensures { IfOk result (λ t. tree t ≡ normal sig.now (tree term)) }
 {
     match term {
         Term::Sym(name) => Ok(Term::Sym(name)),
         Term::App(op, args) => {
-            let mut flat = Terms::with_room(alloc, args.len())?;
-            for arg in args.items {
-                push_parts(&mut flat, sig, op, normal_form(alloc, sig, arg)?)?;
-            }
+            let mut flat = flat_arguments(alloc, sig, op, args)?;
             if sig.is_comm(op) {
                 sort(&mut flat);
             }
             Ok(collapse(sig, op, flat))
         }
     }
+}
+
+// What the normal forms of the arguments of the operation give.
+#[cycle(normal_form)]
+#[inline(always)]
+fn flat_arguments(alloc: Global, sig: &Signature, op: OpId, args: Terms) -> Result<Terms, Memory>
+    ensures { IfOk result (λ ts. ts ≡ flattened sig.now op.0 (normals sig.now (trees args))) }
+{
+    let mut flat = Terms::with_room(alloc, args.len())?;
+    for arg in args.items {
+        push_parts(&mut flat, sig, op, normal_form(alloc, sig, arg)?)?;
+    }
+    Ok(flat)
 }
 
 /// The normal form of a term (`normal` of `specs/Normal.antt`): the arguments are normalised, those of an associative

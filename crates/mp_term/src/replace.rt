@@ -113,6 +113,26 @@ pub fn replace_many(
     Ok(normal)
 }
 
+// The list of one term, which is copied.
+fn one_term(alloc: Global, term: &Term) -> Result<Terms, Memory>
+    ensures { IfOk result (λ ts. ts ≡ tree term.now ∷ []) }
+{
+    let mut terms = Terms::new(alloc);
+    terms.push(copy_term(alloc, term)?)?;
+    Ok(terms)
+}
+
+// The one edit that replaces the subterm at the position by another term.
+fn one_edit(alloc: Global, position: &[u32], new: &Term) -> Result<Edits, Memory>
+    ensures { IfOk result (λ es. es ≡ one_edit position.now (tree new.now)) }
+{
+    let terms = one_term(alloc, new)?;
+    let position = Position::new(alloc, position)?;
+    let mut edits = Edits::new(alloc);
+    edits.push(Edit { position, terms })?;
+    Ok(edits)
+}
+
 /// The term with the subterm at the position replaced by another term, in normal form: `replace_many` of one edit.
 /// Where both terms are well formed, so is what comes out. The fault is that of the one edit, or `Memory` where there
 /// is no room for the edit or the term.
@@ -132,10 +152,6 @@ pub fn replace_at(
         (λ e. (edit_fault sig.now (tree term.now) (one_edit position.now (tree new.now)) ≡ Some e)
         ⊎ (e ≡ EditFault.Memory)) }
 {
-    let position = Position::new(alloc, position)?;
-    let mut terms = Terms::new(alloc);
-    terms.push(copy_term(alloc, new)?)?;
-    let mut edits = Edits::new(alloc);
-    edits.push(Edit { position, terms })?;
+    let edits = one_edit(alloc, position, new)?;
     replace_many(alloc, sig, term, &edits)
 }
