@@ -1,10 +1,11 @@
 -- Steps of the machine over conditions.
-use Rattle.std.proofs.Common.{◌≡◌, ℕ, ◌<◌, cond, List, [], ◌∷◌, Option, Some, None, Ok, true, false, refl, ap, sym}
-use Rattle.std.proofs.Common.{◌∙◌, arith, subst}
+use Rattle.std.proofs.Common.{◌≡◌, ℕ, ◌<◌, cond, List, [], ◌∷◌, Option, Some, None, Result, Ok, Err, true}
+use Rattle.std.proofs.Common.{false, refl, ap, sym, ◌∙◌, arith, subst}
 use Rattle.std.specs.Prelude.{codes}
 use Rattle.std.specs.Borrow.{Bor}
 use Rattle.std.proofs.lemmas.Bool.{lt-leb}
 use Rattle.mp_parser.specs.declared.limits.TheConstants.{MAX_OPEN}
+use Rattle.mp_parser.specs.declared.fault.SyntaxError.{SyntaxError}
 use Rattle.mp_parser.specs.declared.token.Punct.TheVariants.{Open, OpenSquare, Semicolon}
 use Rattle.mp_parser.specs.declared.condition_tree.Measure.{Measure}
 use Rattle.mp_parser.specs.declared.condition_tree.Measure.TheVariants.{Count, Size}
@@ -21,7 +22,7 @@ use Rattle.mp_parser.specs.Lexing.{behind}
 use Rattle.mp_parser.specs.Syntax.{Spot, Tree, Literal, condition, Statement, RuleOf, measure_word, sense_sign}
 use Rattle.mp_parser.specs.Syntax.{relation_word, property_word}
 use Rattle.mp_parser.specs.Machine.{step_in, heading, OfRule, Within, InStatement, InCondition, Frame, Operand}
-use Rattle.mp_parser.specs.Machine.{Square, open_count, Level, no_level, next_literal}
+use Rattle.mp_parser.specs.Machine.{Square, open_count, Level, no_level, next_literal, next_alternative}
 use Rattle.mp_parser.specs.Machine.{all_alternatives, Site, OnLeft, Lead, OfRelation, OfProperty, State, BeforeExpr}
 use Rattle.mp_parser.specs.Machine.{BeforeLiteral, BeforeBody, BeforeOperand, AfterExpr, AfterLiteral, Step, Go, Emit}
 use Rattle.mp_parser.specs.Machine.{is_punct, is_word, measure_of, sense_of, relation_of, property_of, relation_held}
@@ -29,8 +30,9 @@ use Rattle.mp_parser.specs.Machine.{property_held, refuse, on_punct, on_text, on
 use Rattle.mp_parser.specs.Machine.{step_open, step_amount, step_atom, step_body, step_whole, run, InTemplate}
 use Rattle.mp_parser.specs.Machine.{step_rule}
 use Rattle.mp_parser.specs.Parsing.{HasRoomIn, onward, WantsPunct, TemplateGives}
-use Rattle.mp_parser.specs.ConditionParsing.{EndsCondition, EndsIf, IfGives, WantsAmount, EndsRule}
-use Rattle.mp_parser.proofs.Runs.{one-step}
+use Rattle.mp_parser.specs.ConditionParsing.{EndsAlternative, EndsCondition, EndsIf, IfGives, WantsAmount, EndsRule}
+use Rattle.mp_parser.specs.ConditionParsing.{LiteralAddedFrom}
+use Rattle.mp_parser.proofs.Runs.{one-step, fails-along}
 use Rattle.mp_parser.specs.declared.tree.Expr.{Expr}
 use Rattle.mp_parser.proofs.TokensLaw.{head-is}
 
@@ -154,12 +156,29 @@ pub and-step : (x : Within) (k : List Frame) (v : Level) (l : Literal) (t : Plac
     → is_word (codes "and") t.token ≡ true → step (AfterLiteral x k v l) t ≡ Go (BeforeLiteral x k (next_literal v l))
 and-step x k v l t h = rw h refl
 
+-- `or` leads to another alternative
+pub or-step : (x : Within) (k : List Frame) (v : Level) (l : Literal) (t : Placed) → EndsAlternative t.token
+    → is_word (codes "or") t.token ≡ true
+    → step (AfterLiteral x k v l) t ≡ Go (BeforeLiteral x k (next_alternative v l))
+or-step x k v l t ends h = rw (ends, h) refl
+
 -- any other token stands behind the whole condition
 pub whole-step : (x : Within) (k : List Frame) (v : Level) (l : Literal) (t : Placed) → EndsCondition t.token
     → step (AfterLiteral x k v l) t ≡ step_whole x k (condition (all_alternatives v l)) t
 whole-step x k v l t h = rw (h.0, h.1) refl
 
 -- ---- what calls give
+
+-- what is put behind others from a later state on is put there from the one that leads to it
+pub added-along : (from mid : Within → List Frame → Level → State) (room : ℕ) (before after : List Literal)
+    (r : Result (Unit {0}) SyntaxError) (old here new : List Placed)
+    → ((done : List Statement) (x : Within) (k : List Frame) (v : Level)
+    → run done (from x k v) old ≡ run done (mid x k v) here)
+    → LiteralAddedFrom mid room before after r here new → LiteralAddedFrom from room before after r old new
+added-along from mid room before after (Ok u) old here new e h =
+    (h.0, h.1, λ done x k v len. e done x k v ∙ h.2 done x k v len)
+added-along from mid room before after (Err f) old here new e h =
+    λ done x k v len. fails-along f _ _ (e done x k v) (h done x k v len)
 
 -- behind the pattern of a rule, and its template where it has one, stands what ends it
 pub behind-template : (o : Option (Bor Expr)) (t : Placed) (old new : List Placed)

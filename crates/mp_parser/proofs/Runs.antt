@@ -8,6 +8,7 @@ use Rattle.mp_parser.specs.declared.place.Place.{Place}
 use Rattle.mp_parser.specs.declared.token.Punct.{Punct}
 use Rattle.mp_parser.specs.declared.token.Punct.TheVariants.{Open, Close, Comma, Colon, Semicolon, Dollar, OpenBrace}
 use Rattle.mp_parser.specs.declared.fault.Fault.{Fault}
+use Rattle.mp_parser.specs.declared.tree.Expr.{Expr}
 use Rattle.mp_parser.specs.declared.fault.SyntaxError.{SyntaxError}
 use Rattle.mp_parser.specs.declared.fault.SyntaxError.TheVariants as errors
 use Rattle.mp_parser.specs.Tokens as tokens
@@ -21,6 +22,8 @@ use Rattle.mp_parser.specs.Machine.{AfterWord, AfterOpen, AfterWildcard, AfterEx
 use Rattle.mp_parser.specs.Machine.{word_of, wildcard_at, is_dot, with_default, refuse, step, run, AfterBrace}
 use Rattle.mp_parser.specs.Machine.{on_punct, is_arrow}
 use Rattle.mp_parser.specs.Parsing.{HasRoomIn, onward, WantsPunct, Fails, Reading, Passes, within_defaults, IsRow}
+use Rattle.mp_parser.specs.Parsing.{IsTreeOrMemory}
+use Rattle.mp_parser.specs.View.{expr_tree}
 
 -- behind a punctuation character lie the other tokens
 pub behind-punct : (p : Punct) (t : Token) (ts : List Placed) → is_punct p t ≡ true → behind t ts ≡ ts
@@ -61,6 +64,20 @@ pub breaks : {A : Type 0} (from : Reading) (to : A → Reading) (r : Result A Sy
 breaks from to (Ok a) e read old new h p q = absurd h
 breaks from to (Err f) e read old new h p q =
     subst (λ g. Fails g (from old)) (sym h) (fails-along e (from old) read p q)
+
+-- what holds of a fault holds of the result that hands it on
+pub breaks-so : {A : Type 0} (P : Result A SyntaxError → Type 0) (r : Result A SyntaxError) (e : SyntaxError)
+    → IsErrAnd r (λ f. f ≡ e) → P (Err e) → P r
+breaks-so P (Ok a) e h p = absurd h
+breaks-so P (Err f) e h p = subst (λ g. P (Err g)) (sym h) p
+
+-- a tree that is made, unless memory runs out, is passed where its parts are
+pub passes-made : (from : Reading) (done : List Statement) (x : Within) (k : List Frame) (t : Tree)
+    (r : Result Expr SyntaxError) (old new : List Placed)
+    → from old ≡ run done (AfterExpr x k t) new → IsTreeOrMemory t r
+    → Passes from (λ e. run done (AfterExpr x k (expr_tree e))) r old new
+passes-made from done x k t (Ok e) old new p h = p ∙ ap (λ u. run done (AfterExpr x k u) new) (sym h)
+passes-made from done x k t (Err e) old new p h = subst (λ f. Fails f (from old)) (sym h) tt
 
 -- a bracket is no word
 pub bracket-no_word : (t : Token) → is_punct Open t ≡ true → word_of t ≡ None
@@ -262,7 +279,7 @@ wildcard-begins done x k t name marks kind old new e h = ap (run done (BeforeExp
 
 -- how far an expression that begins with this wildcard, or with none, is above what stands in it
 abbrev pub levels : Option Wildcard → ℕ
-levels (Some w) = 4
+levels (Some w) = 5
 levels None = 2
 
 -- it is 2 or more
@@ -270,8 +287,8 @@ pub levels-least : (o : Option Wildcard) → 2 ≤ levels o
 levels-least (Some w) = omega arith
 levels-least None = omega arith
 
--- it is at most 4
-pub levels-bound : (o : Option Wildcard) → levels o ≤ 4
+-- it is at most 5
+pub levels-bound : (o : Option Wildcard) → levels o ≤ 5
 levels-bound (Some w) = omega arith
 levels-bound None = omega arith
 

@@ -8,13 +8,12 @@ use Rattle.mp_parser.specs.declared.condition_tree.Property.{Property}
 use Rattle.mp_parser.specs.declared.condition_tree.Measure.{Measure}
 use Rattle.mp_parser.specs.declared.condition_tree.Amount as code_amount
 use Rattle.mp_parser.specs.declared.condition_tree.Atom as code_atom
-use Rattle.mp_parser.specs.declared.condition_tree.Literal as code_literal
 use Rattle.mp_parser.specs.declared.condition_tree.Alternative as code_alternative
 use Rattle.mp_parser.specs.declared.condition_tree.Condition as code
 use Rattle.mp_parser.specs.Tokens.{Token, Placed}
-use Rattle.mp_parser.specs.Syntax.{Spot, Tree, Amount, Measured, Bracketed, Literal, Literals, literals, condition}
+use Rattle.mp_parser.specs.Syntax.{Spot, Tree, Amount, Measured, Literal, Literals, literals, condition}
 use Rattle.mp_parser.specs.Syntax.{Statement}
-use Rattle.mp_parser.specs.View.{expr_tree, amount_tree, atom_tree, literal_tree, alternative_tree, condition_tree}
+use Rattle.mp_parser.specs.View.{expr_tree, amount_tree, atom_tree, alternative_tree, condition_tree}
 use Rattle.mp_parser.specs.Machine.{State, Within, InCondition, Frame, Operand, Level, no_level, all_alternatives}
 use Rattle.mp_parser.specs.Machine.{Site, site, Side, Lead, OfMeasure, OfRelation, OfProperty, with_atom, with_amount}
 use Rattle.mp_parser.specs.Machine.{BeforeLiteral, BeforeBody, BeforeOperand, AfterAmount, AfterSense, AfterLiteral}
@@ -57,21 +56,29 @@ AlternativeGives room (Err e) old new = (done : List Statement) (x : Within) (k 
     → HasRoom k room
     → Fails e (run done (BeforeLiteral x k (level before [])) old)
 
--- a literal is passed, or the first fault is given
-abbrev pub LiteralGives : ℕ → Result code_literal.Literal SyntaxError → List Placed → List Placed → Type 0
-LiteralGives room result old new = (done : List Statement) (x : Within) (k : List Frame) (v : Level) → HasRoom k room
-    → Passes (run done (BeforeLiteral x k v)) (λ l. run done (AfterLiteral x k v (literal_tree l))) result old new
+-- from this state on a literal is passed and put behind these, or the first fault is given
+abbrev pub LiteralAddedFrom : (Within → List Frame → Level → State) → ℕ → List Literal → List Literal
+    → Result (Unit {0}) SyntaxError → List Placed → List Placed → Type 0
+LiteralAddedFrom at room before after (Ok _) old new = (l : Literal) × (after ≡ before ++ l ∷ [])
+    × ((done : List Statement) (x : Within) (k : List Frame) (v : Level) → HasRoom k room
+    → run done (at x k v) old ≡ run done (AfterLiteral x k v l) new)
+LiteralAddedFrom at room before after (Err e) old new = (done : List Statement) (x : Within) (k : List Frame)
+    (v : Level) → HasRoom k room → Fails e (run done (at x k v) old)
+
+-- a literal is passed and put behind these, or the first fault is given
+abbrev pub LiteralAdded : ℕ → List Literal → List Literal → Result (Unit {0}) SyntaxError → List Placed → List Placed
+    → Type 0
+LiteralAdded = LiteralAddedFrom BeforeLiteral
+
+-- the same of a literal, negated or not, from behind the place of its `not` on
+abbrev pub BodyAdded : ℕ → Bool → List Literal → List Literal → Result (Unit {0}) SyntaxError → List Placed
+    → List Placed → Type 0
+BodyAdded room negated = LiteralAddedFrom (λ x k v. BeforeBody x k (site v negated)) room
 
 -- `not` is passed, where it stands there
 abbrev pub NegationGives : Bool → List Placed → List Placed → Type 0
 NegationGives negated old new = (done : List Statement) (x : Within) (k : List Frame) (v : Level)
     → run done (BeforeLiteral x k v) old ≡ run done (BeforeBody x k (site v negated)) new
-
--- a condition in square brackets is passed, or the first fault is given
-abbrev pub BracketedGives : ℕ → Result code.Condition SyntaxError → List Placed → List Placed → Type 0
-BracketedGives room result old new = (done : List Statement) (x : Within) (k : List Frame) (s : Site) → HasRoom k room
-    → Passes (run done (BeforeBody x k s)) (λ c.
-    run done (AfterLiteral x k s.level (Bracketed s.negated (condition_tree c)))) result old new
 
 -- from this state of a site on an atom is passed, or the first fault is given
 abbrev pub AtomFrom : (Within → List Frame → Site → State) → ℕ → Result code_atom.Atom SyntaxError → List Placed

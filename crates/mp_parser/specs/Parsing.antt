@@ -204,12 +204,30 @@ ChainGives (Ok r) old new = (done : List Statement) (x : Within) (k : List Frame
     ≡ run done (behind_wildcard x (within_defaults (map wildcard_of r.0.now) k) r.1) new
 ChainGives (Err e) old new = e ≡ errors.Memory
 
+-- behind a chain whose last wildcard is passed, where there is one, its default is passed, or the first fault is given
+abbrev pub DefaultGives : ℕ → Option code_wildcard.Wildcard → Result Expr SyntaxError → List Placed → List Placed
+    → Type 0
+DefaultGives room last = ExprFrom (λ x k. behind_wildcard x k last) room
+
+-- the expression is this one, unless memory runs out
+abbrev pub IsTreeOrMemory : Tree → Result Expr SyntaxError → Type 0
+IsTreeOrMemory t (Ok e) = expr_tree e ≡ t
+IsTreeOrMemory t (Err e) = e ≡ errors.Memory
+
 -- behind an expression in this open bracket there is a comma, or what closes it
 abbrev pub IsRow : Punct → Within → List Frame → (List Tree → Frame) → (List Tree → State) → Type 0
 IsRow ending x k frame to = (es : List Tree) (e : Tree) (t : Placed)
     → step (AfterExpr x (frame es ∷ k) e) t
     ≡ (if is_punct Comma t.token then Go (BeforeExpr x (frame (es ++ e ∷ []) ∷ k))
     else on_punct ending t.token (Go (to (es ++ e ∷ []))))
+
+-- an expression is passed and put behind these, or the first fault is given
+abbrev pub ExprAdded : ℕ → List Expr → List Expr → Result (Unit {0}) SyntaxError → List Placed → List Placed → Type 0
+ExprAdded room before after (Ok _) old new = (e : Expr) × (after ≡ before ++ e ∷ [])
+    × ((done : List Statement) (x : Within) (k : List Frame) → HasRoom k room
+    → run done (BeforeExpr x k) old ≡ run done (AfterExpr x k (expr_tree e)) new)
+ExprAdded room before after (Err err) old new = (done : List Statement) (x : Within) (k : List Frame) → HasRoom k room
+    → Fails err (run done (BeforeExpr x k) old)
 
 -- expressions are passed up to what closes the bracket, or the first fault is given
 abbrev pub RowGives : Punct → ℕ → Result (Bor (List Expr)) SyntaxError → List Placed → List Placed → Type 0

@@ -1,11 +1,12 @@
 //! Reads conditions: alternatives, their literals, and square brackets.
 
-ghost use Rattle.std.specs.Prelude.{◌≡◌, ◌<◌, ◌≤◌, true, length, OnOk};
+ghost use Rattle.std.specs.Prelude.{◌≡◌, ◌<◌, ◌≤◌, false, true, length, map, OnOk};
 ghost use Rattle.mp_parser.specs.Lexing.{token_of};
 ghost use Rattle.mp_parser.specs.Machine.{is_punct};
+ghost use Rattle.mp_parser.specs.View.{literal_tree};
 ghost use Rattle.mp_parser.specs.Parsing.{ahead};
-ghost use Rattle.mp_parser.specs.ConditionParsing.{ConditionGives, AlternativeGives, LiteralGives};
-ghost use Rattle.mp_parser.specs.ConditionParsing.{NegationGives, BracketedGives, EndsCondition, EndsAlternative};
+ghost use Rattle.mp_parser.specs.ConditionParsing.{ConditionGives, AlternativeGives, LiteralAdded};
+ghost use Rattle.mp_parser.specs.ConditionParsing.{NegationGives, BodyAdded, EndsCondition, EndsAlternative};
 
 use crate::arena::Arena;
 use crate::condition_tree::{Alternative, Condition, Literal};
@@ -49,7 +50,7 @@ impl<'a> Parser<'a> {
     {
         let mut literals = Vec::new(arena.alloc);
         loop {
-            literals.push(self.literal(arena, room)?)?;
+            self.literal(arena, room, &mut literals)?;
             if !self.sees_word(b"and") {
                 break;
             }
@@ -58,19 +59,41 @@ impl<'a> Parser<'a> {
         Ok(Alternative { literals })
     }
 
-    // Reads a literal, in which at most `room` brackets stand open at once.
+    // Reads a literal, in which at most `room` brackets stand open at once, and puts it behind these.
     #[cycle(condition)]
-    fn literal(&mut self, arena: &mut Arena<'a>, room: usize) -> Result<Literal<'a>, SyntaxError>
-        ensures read { LiteralGives room result (ahead self.old) (ahead self.new) }
+    fn literal(
+        &mut self,
+        arena: &mut Arena<'a>,
+        room: usize,
+        literals: &mut Vec<Literal<'a>>,
+    ) -> Result<(), SyntaxError>
+        ensures read { LiteralAdded room (map literal_tree literals.old.items) (map literal_tree literals.new.items)
+            result (ahead self.old) (ahead self.new) }
         ensures shorter { OnOk result (length (ahead self.new) < length (ahead self.old)) }
     {
         let negated = self.negation();
         if self.sees(Punct::OpenSquare) {
-            let condition = self.bracketed(arena, room)?;
-            return Ok(Literal::Bracketed { negated, condition });
+            return self.bracketed(arena, room, negated, literals);
         }
+        self.plain(arena, room, negated, literals)
+    }
+
+    // Reads an atom, where no square bracket is held, and puts it as a literal behind these.
+    fn plain(
+        &mut self,
+        arena: &mut Arena<'a>,
+        room: usize,
+        negated: bool,
+        literals: &mut Vec<Literal<'a>>,
+    ) -> Result<(), SyntaxError>
+        requires { is_punct Punct.OpenSquare (token_of self.old.token.kind) ≡ false }
+        ensures read { BodyAdded room negated (map literal_tree literals.old.items)
+            (map literal_tree literals.new.items) result (ahead self.old) (ahead self.new) }
+        ensures shorter { OnOk result (length (ahead self.new) < length (ahead self.old)) }
+    {
         let atom = self.atom(arena, room)?;
-        Ok(Literal::Atom { negated, atom })
+        literals.push(Literal::Atom { negated, atom })?;
+        Ok(())
     }
 
     // Passes the word `not` where it is held, and says whether it was.
@@ -85,15 +108,18 @@ impl<'a> Parser<'a> {
         negated
     }
 
-    // Reads a condition in square brackets, of which the opening one is held.
+    // Reads a condition in square brackets, of which the opening one is held, and puts it as a literal behind these.
     #[cycle(condition)]
     fn bracketed(
         &mut self,
         arena: &mut Arena<'a>,
         room: usize,
-    ) -> Result<Condition<'a>, SyntaxError>
+        negated: bool,
+        literals: &mut Vec<Literal<'a>>,
+    ) -> Result<(), SyntaxError>
         requires { is_punct Punct.OpenSquare (token_of self.old.token.kind) ≡ true }
-        ensures read { BracketedGives room result (ahead self.old) (ahead self.new) }
+        ensures read { BodyAdded room negated (map literal_tree literals.old.items)
+            (map literal_tree literals.new.items) result (ahead self.old) (ahead self.new) }
         ensures shorter { OnOk result (length (ahead self.new) < length (ahead self.old)) }
     {
         if room == 0 {
@@ -102,6 +128,7 @@ impl<'a> Parser<'a> {
         self.advance();
         let condition = self.condition(arena, room - 1)?;
         self.expect(Punct::CloseSquare)?;
-        Ok(condition)
+        literals.push(Literal::Bracketed { negated, condition })?;
+        Ok(())
     }
 }

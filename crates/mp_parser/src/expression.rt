@@ -1,13 +1,14 @@
 //! Reads expressions.
 
-ghost use Rattle.std.specs.Prelude.{◌≡◌, ◌<◌, ◌≤◌, [], None, true, length, OnOk, IfOk};
+ghost use Rattle.std.specs.Prelude.{◌≡◌, ◌<◌, ◌≤◌, [], None, true, length, map, OnOk, IfOk};
 ghost use Rattle.std.specs.Prelude.{IfSome, IfNone};
 ghost use Rattle.mp_parser.specs.Lexing.{token_of};
 ghost use Rattle.mp_parser.specs.Machine.{is_punct, wildcard_at};
 ghost use Rattle.mp_parser.specs.View.{spot_of, spot_of_sign, wildcard_of, expr_tree};
-ghost use Rattle.mp_parser.specs.Syntax.{HasNoDefault};
+ghost use Rattle.mp_parser.specs.Syntax.{HasNoDefault, Optional};
 ghost use Rattle.mp_parser.specs.Parsing.{ahead, ExprGives, WordLeads, DollarLeads, WildcardLeads};
 ghost use Rattle.mp_parser.specs.Parsing.{HasNoDefaultBehind, CountGives, ChainGives, RowGives, OperandsGive};
+ghost use Rattle.mp_parser.specs.Parsing.{DefaultGives, IsTreeOrMemory, ExprAdded};
 
 use crate::arena::Arena;
 use crate::fault::{FaultKind, SyntaxError};
@@ -81,15 +82,30 @@ impl<'a> Parser<'a> {
         }
         self.advance();
         let (others, last) = self.chain(arena.alloc, arena.bump)?;
-        let default = match last {
-            Some(wildcard) => self.counted(arena.bump, wildcard)?,
-            None => self.expression(arena, room)?,
-        };
-        Ok(Expr::Optional {
-            wildcard: arena.bump.try_alloc(wildcard)?,
-            others,
-            default: arena.bump.try_alloc(default)?,
-        })
+        let default = self.behind_chain(arena, last, room)?;
+        optional(arena.bump, wildcard, others, default)
+    }
+
+    // Reads the default behind a chain of wildcards: what begins with its last wildcard, where this is no longer held,
+    // or the expression that is held.
+    #[cycle(expression)]
+    fn behind_chain(
+        &mut self,
+        arena: &mut Arena<'a>,
+        last: Option<Wildcard<'a>>,
+        room: usize,
+    ) -> Result<Expr<'a>, SyntaxError>
+        requires held { IfNone last (wildcard_at (token_of self.old.token.kind) self.old.token.place ≡ None) }
+        requires last { IfSome last (λ w. HasNoDefaultBehind (wildcard_of w) (token_of self.old.token.kind)) }
+        ensures read { DefaultGives room last.entry result (ahead self.old) (ahead self.new) }
+        ensures plain { IfOk result (λ e. HasNoDefault (expr_tree e)) }
+        ensures shorter { OnOk result (length (ahead self.new) ≤ length (ahead self.old)) }
+        ensures kept { OnOk result (arena.new.pending.items ≡ arena.old.pending.items) }
+    {
+        match last {
+            Some(wildcard) => self.counted(arena.bump, wildcard),
+            None => self.expression(arena, room),
+        }
     }
 
     // Reads what begins with this wildcard, where no default of it follows: one with a count, where a brace follows, or
@@ -193,16 +209,27 @@ impl<'a> Parser<'a> {
         ensures kept { OnOk result (arena.new.pending.items ≡ arena.old.pending.items) }
     {
         let start = arena.start();
-        let first = self.expression(arena, room)?;
-        arena.push(first)?;
+        self.push_expr(arena, room)?;
         while self.sees(Punct::Comma) {
             self.advance();
-            let expr = self.expression(arena, room)?;
-            arena.push(expr)?;
+            self.push_expr(arena, room)?;
         }
         self.expect(closes)?;
         let list = arena.finish(start)?;
         Ok(list)
+    }
+
+    // Reads an expression, and puts it at the end of the innermost list.
+    #[cycle(expression)]
+    #[inline(always)]
+    fn push_expr(&mut self, arena: &mut Arena<'a>, room: usize) -> Result<(), SyntaxError>
+        ensures read { ExprAdded room arena.old.pending.items arena.new.pending.items result (ahead self.old)
+            (ahead self.new) }
+        ensures shorter { OnOk result (length (ahead self.new) < length (ahead self.old)) }
+    {
+        let expr = self.expression(arena, room)?;
+        arena.push(expr)?;
+        Ok(())
     }
 
     // Reads operands with one sign between them, in brackets of which the opening one is held.
@@ -246,8 +273,7 @@ impl<'a> Parser<'a> {
         let start = arena.start();
         arena.push(first)?;
         loop {
-            let expr = self.expression(arena, room)?;
-            arena.push(expr)?;
+            self.push_expr(arena, room)?;
             if !self.sees_sign(sign.text) {
                 break;
             }
@@ -257,6 +283,23 @@ impl<'a> Parser<'a> {
         let list = arena.finish(start)?;
         Ok(list)
     }
+}
+
+// The expression of this wildcard and these others, with this default of the last.
+fn optional<'a>(
+    bump: &'a Bump,
+    wildcard: Wildcard<'a>,
+    others: &'a [Wildcard<'a>],
+    default: Expr<'a>,
+) -> Result<Expr<'a>, SyntaxError>
+    ensures { IsTreeOrMemory (Optional (wildcard_of wildcard.entry) (map wildcard_of others.now)
+        (expr_tree default.entry)) result }
+{
+    Ok(Expr::Optional {
+        wildcard: bump.try_alloc(wildcard)?,
+        others,
+        default: bump.try_alloc(default)?,
+    })
 }
 
 // The list without expressions.

@@ -10,22 +10,28 @@ use Rattle.mp_parser.proofs.Runs.{levels}
 use Rattle.mp_parser.proofs.parser.Parser.+expression.Given as goal
 
 abbrev pub decreases-row : goal.decreases-row
-decreases-row l = 5 * l.room + 5
+decreases-row l = 7 * l.room + 7
+
+abbrev pub decreases-push_expr : goal.decreases-push_expr
+decreases-push_expr l = 7 * l.room + 6
 
 abbrev pub decreases-behind_wildcard : goal.decreases-behind_wildcard
-decreases-behind_wildcard l = 5 * l.room + 3
+decreases-behind_wildcard l = 7 * l.room + 4
+
+abbrev pub decreases-behind_chain : goal.decreases-behind_chain
+decreases-behind_chain l = 7 * l.room + 3
 
 abbrev pub decreases-behind_word : goal.decreases-behind_word
-decreases-behind_word l = 5 * l.room + 1
+decreases-behind_word l = 7 * l.room + 1
 
 abbrev pub decreases-expression : goal.decreases-expression
-decreases-expression l = 5 * l.room + levels (wildcard_at (token_of l.self.now.token.kind) l.self.now.token.place)
+decreases-expression l = 7 * l.room + levels (wildcard_at (token_of l.self.now.token.kind) l.self.now.token.place)
 
 abbrev pub decreases-infix : goal.decreases-infix
-decreases-infix l = 5 * l.room + 1
+decreases-infix l = 7 * l.room + 1
 
 abbrev pub decreases-operands : goal.decreases-operands
-decreases-operands l = 5 * l.room + 5
+decreases-operands l = 7 * l.room + 7
 
 -- the expressions so far are those that the open bracket holds, and the last that is read, behind what was pending
 abbrev pub invariant-row-loop-self : goal.invariant-row-loop-self
@@ -44,8 +50,8 @@ abbrev pub decreases-row-loop-self : goal.decreases-row-loop-self
 decreases-row-loop-self l = length (ahead l.self)
 
 -- the operands so far are the first, and the others that the open bracket holds, behind what was pending
-abbrev pub invariant-operands-loop-expr : goal.invariant-operands-loop-expr
-invariant-operands-loop-expr l = record {
+abbrev pub invariant-operands-loop-self : goal.invariant-operands-loop-self
+invariant-operands-loop-self l = record {
   others : List Expr;
   items : l.arena.pending.items ≡ l.fn.arena.pending.items ++ (l.fn.first ∷ others);
   read : (done : List Statement) (x : Within) (k : List Frame) (place : Place)
@@ -56,5 +62,5 @@ invariant-operands-loop-expr l = record {
   shorter : length (ahead l.self) ≤ length (ahead l.fn.self);
 }
 
-abbrev pub decreases-operands-loop-expr : goal.decreases-operands-loop-expr
-decreases-operands-loop-expr l = length (ahead l.self)
+abbrev pub decreases-operands-loop-self : goal.decreases-operands-loop-self
+decreases-operands-loop-self l = length (ahead l.self)
