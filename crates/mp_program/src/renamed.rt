@@ -56,6 +56,20 @@ fn renamed_operand(alloc: Global, names: &Names, source: &Operand) -> Result<Ope
     }
 }
 
+// Both operands, in the same way.
+fn renamed_operands(
+    alloc: Global,
+    names: &Names,
+    first: &Operand,
+    second: &Operand,
+) -> Result<(Operand, Operand), Memory>
+    ensures first { IfOk result (λ r. operand r.0 ≡ renamed_operand names.now (operand first.now)) }
+    ensures second { IfOk result (λ r. operand r.1 ≡ renamed_operand names.now (operand second.now)) }
+{
+    let first = renamed_operand(alloc, names, first)?;
+    Ok((first, renamed_operand(alloc, names, second)?))
+}
+
 // The amount, in the same way.
 fn renamed_amount(alloc: Global, names: &Names, source: &Amount) -> Result<Amount, Memory>
     ensures { IfOk result (λ m. amount m ≡ renamed_amount names.now (amount source.now)) }
@@ -67,6 +81,20 @@ fn renamed_amount(alloc: Global, names: &Names, source: &Amount) -> Result<Amoun
     }
 }
 
+// Both amounts, in the same way.
+fn renamed_amounts(
+    alloc: Global,
+    names: &Names,
+    first: &Amount,
+    second: &Amount,
+) -> Result<(Amount, Amount), Memory>
+    ensures first { IfOk result (λ r. amount r.0 ≡ renamed_amount names.now (amount first.now)) }
+    ensures second { IfOk result (λ r. amount r.1 ≡ renamed_amount names.now (amount second.now)) }
+{
+    let first = renamed_amount(alloc, names, first)?;
+    Ok((first, renamed_amount(alloc, names, second)?))
+}
+
 /// The condition, its variables called `v0`, `v1` and so on by their places among the names (`renamed_cond` of
 /// `specs/ProgramOf.antt`); one that isn't among them is called by how many they are. `Memory` comes where there is no
 /// room for it, or where a `u32` can't hold such a number.
@@ -76,20 +104,20 @@ pub fn renamed_cond(alloc: Global, names: &Names, cond: &Cond) -> Result<Cond, M
 {
     match cond {
         Cond::Amounts(m, sense, n) => {
-            let m = renamed_amount(alloc, names, m)?;
-            Ok(Cond::Amounts(m, *sense, renamed_amount(alloc, names, n)?))
+            let (m, n) = renamed_amounts(alloc, names, m, n)?;
+            Ok(Cond::Amounts(m, *sense, n))
         }
         Cond::Same(a, b) => {
-            let a = renamed_operand(alloc, names, a)?;
-            Ok(Cond::Same(a, renamed_operand(alloc, names, b)?))
+            let (a, b) = renamed_operands(alloc, names, a, b)?;
+            Ok(Cond::Same(a, b))
         }
         Cond::Less(a, b) => {
-            let a = renamed_operand(alloc, names, a)?;
-            Ok(Cond::Less(a, renamed_operand(alloc, names, b)?))
+            let (a, b) = renamed_operands(alloc, names, a, b)?;
+            Ok(Cond::Less(a, b))
         }
         Cond::Free(a, b) => {
-            let a = renamed_operand(alloc, names, a)?;
-            Ok(Cond::Free(a, renamed_operand(alloc, names, b)?))
+            let (a, b) = renamed_operands(alloc, names, a, b)?;
+            Ok(Cond::Free(a, b))
         }
         Cond::OfKind(a, kind) => Ok(Cond::OfKind(renamed_operand(alloc, names, a)?, *kind)),
         Cond::Headed(a, op) => Ok(Cond::Headed(renamed_operand(alloc, names, a)?, *op)),

@@ -7,25 +7,25 @@ use Rattle.mp_program.specs.ProgramOf.{renamed_cond}
 use Rattle.mp_program.proofs.TestLaws.{renamed_conds-map}
 use Rattle.mp_program.proofs.renamed.+renamed_cond.Goals as goal
 
-pub renamed_cond-returns-in_ok-renamed_amount-in-Amounts : goal.renamed_cond-returns-in_ok-renamed_amount-in-Amounts
-renamed_cond-returns-in_ok-renamed_amount-in-Amounts t c =
-    ap₂ (λ m n. amounts m c.in-Amounts.sense n) c.in_ok-m-in-Amounts.ensures
-    c.in_ok-renamed_amount-in-Amounts.ensures
+pub renamed_cond-returns-in_ok-m-in-Amounts : goal.renamed_cond-returns-in_ok-m-in-Amounts
+renamed_cond-returns-in_ok-m-in-Amounts t c =
+    ap₂ (λ m n. amounts m c.in-Amounts.sense n) c.in_ok-m-in-Amounts.ensures.first
+    c.in_ok-m-in-Amounts.ensures.second
     ∙ sym (ap (λ s. renamed_cond c.args.names.now (cond_tree s)) c.in-Amounts.is)
 
-pub renamed_cond-returns-in_ok-renamed_operand-in-Same : goal.renamed_cond-returns-in_ok-renamed_operand-in-Same
-renamed_cond-returns-in_ok-renamed_operand-in-Same t c =
-    ap₂ (λ a b. same a b) c.in_ok-a-in-Same.ensures c.in_ok-renamed_operand-in-Same.ensures
+pub renamed_cond-returns-in_ok-a-in-Same : goal.renamed_cond-returns-in_ok-a-in-Same
+renamed_cond-returns-in_ok-a-in-Same t c =
+    ap₂ (λ a b. same a b) c.in_ok-a-in-Same.ensures.first c.in_ok-a-in-Same.ensures.second
     ∙ sym (ap (λ s. renamed_cond c.args.names.now (cond_tree s)) c.in-Same.is)
 
-pub renamed_cond-returns-in_ok-renamed_operand-in-Less : goal.renamed_cond-returns-in_ok-renamed_operand-in-Less
-renamed_cond-returns-in_ok-renamed_operand-in-Less t c =
-    ap₂ (λ a b. less a b) c.in_ok-a-in-Less.ensures c.in_ok-renamed_operand-in-Less.ensures
+pub renamed_cond-returns-in_ok-a-in-Less : goal.renamed_cond-returns-in_ok-a-in-Less
+renamed_cond-returns-in_ok-a-in-Less t c =
+    ap₂ (λ a b. less a b) c.in_ok-a-in-Less.ensures.first c.in_ok-a-in-Less.ensures.second
     ∙ sym (ap (λ s. renamed_cond c.args.names.now (cond_tree s)) c.in-Less.is)
 
-pub renamed_cond-returns-in_ok-renamed_operand-in-Free : goal.renamed_cond-returns-in_ok-renamed_operand-in-Free
-renamed_cond-returns-in_ok-renamed_operand-in-Free t c =
-    ap₂ (λ a b. free a b) c.in_ok-a-in-Free.ensures c.in_ok-renamed_operand-in-Free.ensures
+pub renamed_cond-returns-in_ok-a-in-Free : goal.renamed_cond-returns-in_ok-a-in-Free
+renamed_cond-returns-in_ok-a-in-Free t c =
+    ap₂ (λ a b. free a b) c.in_ok-a-in-Free.ensures.first c.in_ok-a-in-Free.ensures.second
     ∙ sym (ap (λ s. renamed_cond c.args.names.now (cond_tree s)) c.in-Free.is)
 
 pub renamed_cond-returns-in_ok-renamed_operand-in-OfKind : goal.renamed_cond-returns-in_ok-renamed_operand-in-OfKind
