@@ -1,6 +1,0 @@
-use Rattle.std.proofs.Common.{arith}
-use Rattle.std.proofs.lemmas.Grind.{common_steps}
-use Rattle.mp_pattern.proofs.outline.first_names.Goals as goal
-
-pub loop-occurrence-preserved : goal.loop-occurrence-preserved
-loop-occurrence-preserved c = grind (arith, common_steps)
