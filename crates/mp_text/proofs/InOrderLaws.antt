@@ -1,7 +1,7 @@
 -- Statements that are read one behind the other, declarations first: what each adds to those that were read.
 use Rattle.std.proofs.Common.{◌≡◌, true, false, ℕ, List, [], ◌∷◌, ◌++◌, None, append-nil, append_assoc, refl, sym, ap}
 use Rattle.std.proofs.Common.{◌∙◌, subst}
-use Rattle.std.specs.Prelude.{if◌then◌else◌}
+use Rattle.std.specs.Prelude.{if◌then◌else◌, Result, Ok, Err, IfOk}
 use Rattle.mp_term.specs.declared.signature.OpDecl.{OpDecl}
 use Rattle.mp_term.specs.Signature.{Sig}
 use Rattle.mp_term.proofs.ListLaws.{both-empty}
@@ -15,6 +15,8 @@ use Rattle.mp_parser.specs.Parsing.{ahead}
 use Rattle.mp_parser.proofs.Found.{read_ok}
 use Rattle.mp_syntax.proofs.Whole.{file_is_read}
 use Rattle.mp_build.specs.declared.fault.TextFault.{TextFault}
+use Rattle.mp_build.specs.declared.fault.TextError.{TextError}
+use Rattle.mp_build.specs.Answers.{Gives}
 use Rattle.mp_build.specs.Names.{subject_names}
 use Rattle.mp_build.specs.Build.{op_decls, kind_decls, sig_of}
 use Rattle.mp_build.specs.Checks.{op_statement_faults, kind_statement_faults, faults_by, name_faults, term_faults}
@@ -25,7 +27,7 @@ use Rattle.mp_text.specs.declared.reader.Draft.{Draft}
 use Rattle.mp_text.specs.Draft.{IsDraftOf}
 use Rattle.mp_text.specs.File.{file_tree}
 use Rattle.mp_text.specs.FileChecks.{statement_faults, faults}
-use Rattle.mp_text.specs.InOrder.{is_declaration, IsDraftRead}
+use Rattle.mp_text.specs.InOrder.{is_declaration, HasRead, IsDraftRead}
 use Rattle.mp_text.specs.Reading.{IsFileOf}
 
 -- ---- statements that declare nothing
@@ -126,6 +128,19 @@ IsDraftRead-push bytes p q d e s was other read faultless draft = record {
   faultless = faults-push was.statements s other was.faultless faultless;
   draft = subst (λ sig. IsDraftOf sig (was.statements ++ s ∷ []) e) (sym (sig_of-other was.statements s other)) draft;
 }
+
+-- a draft of the statements that were read is that of what was read
+pub IsDraftRead-given : (r : Result Draft TextError) (p q : Parser) (ss : List Statement)
+    → ((bytes : List ℕ) → HasRead bytes [] p → HasRead bytes ss q)
+    → Gives r (faults ss) (λ d. IsDraftOf (sig_of ss) ss d)
+    → IfOk r (λ d. (bytes : List ℕ) → HasRead bytes [] p → IsDraftRead bytes q d)
+IsDraftRead-given (Ok d) p q ss read given = λ bytes begins. record {
+  statements = ss;
+  read = read bytes begins;
+  faultless = given.0;
+  draft = given.1;
+}
+IsDraftRead-given (Err e) p q ss read given = tt
 
 -- where the end is held the statements that were read are all
 run-end : (read : List Statement) (t : Placed) (ts : List Placed) → is_end t.token ≡ true

@@ -1,18 +1,28 @@
--- The variables of wildcards, and the faults of a rule whose pattern has none.
-use Rattle.std.proofs.Common.{◌≡◌, List, ◌++◌, map, Option, Some, refl, sym, ap, ◌∙◌}
-use Rattle.std.specs.Prelude.{◌||◌}
+-- The variables of wildcards, and rules whose pattern has no fault.
+use Rattle.std.proofs.Common.{◌≡◌, ℕ, List, [], ◌∷◌, ◌++◌, map, Option, Some, refl, sym, ap, subst, ◌∙◌}
+use Rattle.std.specs.Prelude.{◌||◌, Result, Ok, Err, IfOk}
 use Rattle.std.proofs.lemmas.List.{map-append}
 use Rattle.mp_term.specs.Signature.{Sig}
 use Rattle.mp_pattern.specs.PatternTree.{Pattern}
 use Rattle.mp_parser.specs.Syntax.{Tree, Symbol, Apply, InfixOf, Wild, Optional, Counted, Variable, Trees, no_trees}
-use Rattle.mp_parser.specs.Syntax.{more_trees, Condition}
+use Rattle.mp_parser.specs.Syntax.{more_trees, Condition, Spot, Statement, RuleOf}
+use Rattle.mp_parser.specs.declared.parser.Parser.{Parser}
+use Rattle.mp_parser.specs.Parsing.{ahead}
+use Rattle.mp_build.specs.declared.fault.TextError.{TextError}
+use Rattle.mp_build.specs.Answers.{Gives}
+use Rattle.mp_build.specs.Build.{sig_of}
 use Rattle.mp_build.specs.ConditionChecks.{has_large_condition, if_faults}
 use Rattle.mp_build.specs.Scope.{pattern_variables, all_pattern_variables}
 use Rattle.mp_build.specs.TemplateChecks.{has_large_template, arrow_faults}
 use Rattle.mp_build.specs.Wildcards.{PatternWildcard, pattern_wildcards, all_pattern_wildcards}
-use Rattle.mp_text.specs.FileChecks.{rule_faults, is_large_rule}
+use Rattle.mp_text.specs.declared.reader.Draft.{Draft}
+use Rattle.mp_text.specs.Draft.{IsDraftOf}
+use Rattle.mp_text.specs.FileChecks.{rule_faults, is_large_rule, statement_faults}
+use Rattle.mp_text.specs.InOrder.{IsDraftRead}
 use Rattle.mp_text.specs.ReadPattern.{IsWholePatternOf}
-use Rattle.mp_text.specs.ReadRule.{wildcard_variable}
+use Rattle.mp_text.specs.ReadRule.{IsRuleStartRead, IsRuleEndRead, wildcard_variable}
+use Rattle.mp_text.proofs.Draft.{draft_sig}
+use Rattle.mp_text.proofs.InOrderLaws.{IsDraftRead-push}
 
 module _ (sig : Sig) where
   mutual
@@ -47,3 +57,21 @@ module _ (sig : Sig) (e : Tree) (p : Pattern) (ws : List PatternWildcard) (whole
       whole.faultless
       ∙ ap (λ vs. arrow_faults vs sig x ++ if_faults sig (Some vs) c)
       (sym (ap (map wildcard_variable) whole.wildcards ∙ map-pattern_wildcards sig e))
+
+-- a rule whose pattern has no fault is added where all of it was read
+pub IsDraftRead-rule : (r : Result (Unit {0}) TextError) (q behind : Parser) (d new : Draft) (name : Spot) (p : Pattern)
+    (ws : List PatternWildcard) (x : Option Tree) (c : Option Condition)
+    → IsRuleEndRead x c (ahead q) (ahead behind)
+    → ((sig : Sig) (earlier : List Statement) (e : Tree) → IsDraftOf sig earlier d → IsWholePatternOf sig e p ws
+    → Gives r (statement_faults sig earlier (RuleOf name e x c))
+    (λ _. IsDraftOf sig (earlier ++ RuleOf name e x c ∷ []) new))
+    → IfOk r (λ _. (bytes : List ℕ) (start : Parser) (e : Tree) → IsDraftRead bytes start d
+    → IsWholePatternOf d.file.sig e p ws → IsRuleStartRead name e (ahead start) (ahead q)
+    → IsDraftRead bytes behind new)
+IsDraftRead-rule (Ok v) q behind d new name p ws x c ends gives = λ bytes start e was whole begins.
+    let sig = sig_of was.statements in
+    let added = gives sig was.statements e was.draft
+    (subst (λ s. IsWholePatternOf s e p ws) (draft_sig sig was.statements d was.draft) whole) in
+    IsDraftRead-push bytes start behind d new (RuleOf name e x c) was refl
+    (begins was.statements ∙ ends was.statements name e) added.0 added.1
+IsDraftRead-rule (Err f) q behind d new name p ws x c ends gives = tt

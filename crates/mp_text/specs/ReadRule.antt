@@ -6,6 +6,11 @@ use Rattle.mp_parser.specs.Machine.{Top, AfterExpr, InStatement, OfRule, heading
 use Rattle.mp_build.specs.Scope.{Variable}
 use Rattle.mp_build.specs.Wildcards.{PatternWildcard}
 
+-- a rule's keyword, its name, a colon and its pattern are passed
+abbrev pub IsRuleStartRead : Spot → Tree → List Placed → List Placed → Type 0
+IsRuleStartRead name e old new = (done : List Statement)
+    → run done Top old ≡ run done (AfterExpr (InStatement (heading OfRule name)) [] e) new
+
 -- what stands behind the pattern of a rule is passed: it gives the rule this template and this condition
 abbrev pub IsRuleEndRead : Option Tree → Option Condition → List Placed → List Placed → Type 0
 IsRuleEndRead x c old new = (done : List Statement) (name : Spot) (e : Tree)

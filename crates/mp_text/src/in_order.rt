@@ -1,6 +1,6 @@
 //! Reads files whose declarations come first, statement by statement.
 
-ghost use Rattle.std.specs.Prelude.{◌≡◌, ◌<◌, ◌≤◌, ◌-◌, ◌^◌, ℕ, List, [], false, length, map};
+ghost use Rattle.std.specs.Prelude.{◌≡◌, ◌<◌, ◌≤◌, ◌-◌, ◌^◌, ℕ, List, [], true, false, length, map, Ok};
 ghost use Rattle.std.specs.Prelude.{IfOk, IfSome, IsTrue, OnOk};
 ghost use Rattle.mp_parser.specs.Lexing.{token_of};
 ghost use Rattle.mp_parser.specs.Machine.{is_end};
@@ -12,9 +12,9 @@ ghost use Rattle.mp_text.specs.InOrder.{HasRead, IsDraftRead, is_declaration};
 ghost use Rattle.mp_text.specs.Reading.{IsFileOf};
 
 use crate::file::File;
-use crate::reader::{Draft, add_statement, draft_of};
+use crate::reader::{Draft, add_statement, draft_of, finished};
 use crate::rule_reader::add_next_rule;
-use crate::subject::{add_term, read_subject};
+use crate::subject::add_next_subject;
 use bumpalo::Bump;
 use mp_build::{TextError, if_faultless};
 use mp_parser::arena::Arena;
@@ -46,14 +46,77 @@ fn build_in_order(alloc: Global, bytes: &[u8]) -> Result<Option<File>, TextError
     let bump = Bump::new(alloc);
     let mut arena = Arena::new(alloc, &bump);
     let mut parser = Parser::new(bytes);
-    let declarations = declarations(alloc, &mut parser, &mut arena)?;
-    let mut draft = draft_of(alloc, &declarations, bytes.len() / SHORT_STATEMENT)?;
-    while !parser.is_at_end() {
-        if !add_next(alloc, &mut draft, &mut parser, &mut arena)? {
-            return Ok(None);
+    build_statements(
+        alloc,
+        &mut parser,
+        &mut arena,
+        bytes.len() / SHORT_STATEMENT,
+    )
+}
+
+// The same of the statements that come next, with room at once for so many rules and subjects.
+fn build_statements<'a>(
+    alloc: Global,
+    parser: &mut Parser<'a>,
+    arena: &mut Arena<'a>,
+    room: usize,
+) -> Result<Option<File>, TextError>
+    requires { (bytes : List ℕ) × HasRead bytes [] parser.old }
+    ensures { IfOk result (λ o. IfSome o (λ f.
+        (bytes : List ℕ) → HasRead bytes [] parser.old → IsFileOf bytes (file_tree f))) }
+{
+    let mut draft = declared(alloc, parser, arena, room)?;
+    let is_whole = add_others(alloc, &mut draft, parser, arena);
+    file_where(is_whole, finished(draft))
+}
+
+// The file, where it is whole.
+fn file_where(is_whole: Result<bool, TextError>, file: File) -> Result<Option<File>, TextError>
+    ensures { IfOk result (λ o. IfSome o (λ f. (is_whole ≡ Ok true) × (f ≡ file))) }
+{
+    match is_whole {
+        Ok(true) => Ok(Some(file)),
+        Ok(false) => {
+            drop(file);
+            Ok(None)
+        }
+        Err(error) => {
+            drop(file);
+            Err(error)
         }
     }
-    Ok(Some(draft.file))
+}
+
+// The draft of the declarations that come next, with room for so many rules and subjects.
+fn declared<'a>(
+    alloc: Global,
+    parser: &mut Parser<'a>,
+    arena: &mut Arena<'a>,
+    room: usize,
+) -> Result<Draft<'a>, TextError>
+    ensures { IfOk result (λ d. (bytes : List ℕ) → HasRead bytes [] parser.old → IsDraftRead bytes parser.new d) }
+{
+    let declarations = declarations(alloc, parser, arena)?;
+    draft_of(alloc, &declarations, room)
+}
+
+// Adds the statements that come next, up to the end of the bytes, to the draft. At a declaration it answers false.
+fn add_others<'a>(
+    alloc: Global,
+    draft: &mut Draft<'a>,
+    parser: &mut Parser<'a>,
+    arena: &mut Arena<'a>,
+) -> Result<bool, TextError>
+    requires { (bytes : List ℕ) × IsDraftRead bytes parser.old draft.old }
+    ensures { IfOk result (λ b. IsTrue b → (bytes : List ℕ) → IsDraftRead bytes parser.old draft.old
+        → IsFileOf bytes (file_tree draft.new.file)) }
+{
+    while !parser.is_at_end() {
+        if !add_next(alloc, draft, parser, arena)? {
+            return Ok(false);
+        }
+    }
+    Ok(true)
 }
 
 // The declarations that come next.
@@ -86,13 +149,28 @@ fn add_next<'a>(
         → IsDraftRead bytes parser.new draft.new) }
     ensures shorter { OnOk result (length (ahead parser.new) < length (ahead parser.old)) }
 {
-    if let Some((name, term)) = read_subject(alloc, &draft.file.sig, parser)? {
-        add_term(alloc, draft, name, term)?;
+    if add_next_subject(alloc, draft, parser)? {
         return Ok(true);
     }
     if add_next_rule(alloc, draft, parser, arena)? {
         return Ok(true);
     }
+    add_next_statement(alloc, draft, parser, arena)
+}
+
+// The same of a statement that is read as a tree.
+fn add_next_statement<'a>(
+    alloc: Global,
+    draft: &mut Draft<'a>,
+    parser: &mut Parser<'a>,
+    arena: &mut Arena<'a>,
+) -> Result<bool, TextError>
+    requires more { is_end (token_of parser.old.token.kind) ≡ false }
+    requires few { length draft.old.subject_names ≤ MAX_SUBJECTS }
+    ensures added { IfOk result (λ b. IsTrue b → (bytes : List ℕ) → IsDraftRead bytes parser.old draft.old
+        → IsDraftRead bytes parser.new draft.new) }
+    ensures shorter { OnOk result (length (ahead parser.new) < length (ahead parser.old)) }
+{
     let statement = read_statement(parser, arena)?;
     if is_declaration(&statement) {
         return Ok(false);

@@ -3,6 +3,7 @@
 ghost use Rattle.std.specs.Prelude.{◌≡◌, ◌≤◌, ◌<◌, ◌-◌, ◌^◌, ◌↔◌, ℕ, List, ◌++◌, ◌∷◌, [], length, map, Some, IfOk};
 ghost use Rattle.std.specs.Prelude.{option_map};
 ghost use Rattle.mp_term.specs.Signature.{Sig};
+ghost use Rattle.mp_term.specs.View.{tree};
 ghost use Rattle.mp_parser.specs.Syntax as syntax;
 ghost use Rattle.mp_parser.specs.Syntax.{RuleOf, SubjectOf, EditOf};
 ghost use Rattle.mp_parser.specs.View.{spot_of, expr_tree, arrow_tree, if_tree, change_tree, statement_tree};
@@ -11,7 +12,7 @@ ghost use Rattle.mp_build.specs.Answers.{Gives};
 ghost use Rattle.mp_text.specs.FileBuild.{file_tree_of};
 ghost use Rattle.mp_text.specs.Draft.{IsDraftOf};
 ghost use Rattle.mp_build.specs.Build.{sig_of};
-ghost use Rattle.mp_build.specs.Checks.{name_faults};
+ghost use Rattle.mp_build.specs.Checks.{faults_by, name_faults};
 ghost use Rattle.mp_build.specs.Edits.{edit_of};
 ghost use Rattle.mp_text.specs.FileChecks.{statement_faults, faults};
 ghost use Rattle.mp_text.specs.EditStatements.{edit_faults_on, edit_statement_faults};
@@ -32,7 +33,7 @@ use mp_build::{
 };
 use mp_pattern::{MAX_EDIT_STATEMENTS, MAX_RULES, MAX_SUBJECTS, Rules};
 use mp_syntax::{Change, Condition, Expr, Statement, Word, read_statements};
-use mp_term::{Edits, MAX_EDITS, Signature};
+use mp_term::{Edits, MAX_EDITS, Signature, Term};
 use std::alloc::Global;
 
 /// Reads a rule file: the operations, kinds, rules, subjects and edits that its statements stand for.
@@ -145,6 +146,21 @@ fn add_rule<'a>(
     Ok(())
 }
 
+/// Adds a subject of this name and this term behind the others.
+pub(crate) fn push_subject(
+    alloc: Global,
+    subjects: &mut Subjects,
+    name: Word<'_>,
+    term: Term,
+) -> Result<(), TextError>
+    ensures { Gives result []
+        (λ _. subjects.new ≡ subjects.old ++ record { name = name.entry.text.now; term = tree term } ∷ []) }
+{
+    let name = new_name(alloc, name)?;
+    subjects.push(Subject { name, term })?;
+    Ok(())
+}
+
 /// Adds a subject, with its term in normal form.
 fn add_subject<'a>(
     alloc: Global,
@@ -159,8 +175,7 @@ fn add_subject<'a>(
     let is_large = is_large_term(term);
     add_statement_name(&mut draft.subject_names, name, MAX_SUBJECTS, is_large)?;
     let term = normal_term(alloc, &draft.file.sig, term)?;
-    let name = new_name(alloc, name)?;
-    draft.file.subjects.push(Subject { name, term })?;
+    push_subject(alloc, &mut draft.file.subjects, name, term)?;
     Ok(())
 }
 
@@ -250,6 +265,42 @@ fn rules_with_room(alloc: Global, room: usize) -> Rules
     }
 }
 
+/// The draft of no statement over the signature. It has room at once for so many rules and subjects, but for no more
+/// than there may be, and only where memory has it.
+fn empty_draft<'a>(alloc: Global, sig: Signature, room: usize) -> Draft<'a>
+    ensures { IsDraftOf sig [] result }
+{
+    let rules = room.min(MAX_RULES);
+    let subjects = room.min(MAX_SUBJECTS);
+    let file = File {
+        sig,
+        rules: rules_with_room(alloc, rules),
+        subjects: Subjects::with_room(alloc, subjects),
+        edits: EditSets::new(alloc),
+    };
+    Draft {
+        file,
+        rule_names: TextNames::with_room(alloc, rules),
+        subject_names: TextNames::with_room(alloc, subjects),
+    }
+}
+
+/// Adds what the statements give to the draft of none, or finds the first fault that is no declaration's.
+fn add_statements<'a>(
+    alloc: Global,
+    draft: &mut Draft<'a>,
+    statements: &[Statement<'a>],
+) -> Result<(), TextError>
+    requires { IsDraftOf draft.old.file.sig [] draft.old }
+    ensures { Gives result (faults_by (statement_faults draft.old.file.sig) [] (map statement_tree statements.now))
+        (λ _. IsDraftOf draft.old.file.sig (map statement_tree statements.now) draft.new) }
+{
+    for statement in statements {
+        add_statement(alloc, draft, statement)?;
+    }
+    Ok(())
+}
+
 /// The draft of the statements over the signature that they declare, or their first fault. It has room at once for so
 /// many rules and subjects, but for no more than there may be, and only where memory has it.
 pub(crate) fn draft_of<'a>(
@@ -261,23 +312,15 @@ pub(crate) fn draft_of<'a>(
         (λ d. IsDraftOf (sig_of (map statement_tree statements.now)) (map statement_tree statements.now) d) }
 {
     let sig = declare(alloc, statements)?;
-    let rules = room.min(MAX_RULES);
-    let subjects = room.min(MAX_SUBJECTS);
-    let file = File {
-        sig,
-        rules: rules_with_room(alloc, rules),
-        subjects: Subjects::with_room(alloc, subjects),
-        edits: EditSets::new(alloc),
-    };
-    let mut draft = Draft {
-        file,
-        rule_names: TextNames::with_room(alloc, rules),
-        subject_names: TextNames::with_room(alloc, subjects),
-    };
-    for statement in statements {
-        add_statement(alloc, &mut draft, statement)?;
-    }
-    Ok(draft)
+    let mut draft = empty_draft(alloc, sig, room);
+    add_statements(alloc, &mut draft, statements).and(Ok(draft))
+}
+
+/// The file of a draft, whose names are let go.
+pub(crate) fn finished(draft: Draft<'_>) -> File
+    ensures { result ≡ draft.entry.file }
+{
+    draft.file
 }
 
 /// The file that the statements stand for, or their first fault.
@@ -286,5 +329,5 @@ fn build_file(alloc: Global, statements: &[Statement<'_>]) -> Result<File, TextE
         (λ f. file_tree f ≡ file_tree_of (map statement_tree statements.now)) }
 {
     let draft = draft_of(alloc, statements, statements.len())?;
-    Ok(draft.file)
+    Ok(finished(draft))
 }

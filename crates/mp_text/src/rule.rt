@@ -4,6 +4,7 @@ ghost use Rattle.std.specs.Prelude.{◌≡◌, ◌||◌, ◌++◌, Some, map, op
 ghost use Rattle.mp_pattern.specs.CondView.{cond_tree};
 ghost use Rattle.mp_pattern.specs.TemplateView.{template_tree};
 ghost use Rattle.mp_pattern.specs.RuleView.{rule_tree};
+ghost use Rattle.mp_pattern.specs.View.{pattern_tree};
 ghost use Rattle.mp_parser.specs.View.{spot_of, expr_tree, arrow_tree, if_tree};
 ghost use Rattle.mp_build.specs.Answers.{Gives};
 ghost use Rattle.mp_build.specs.Build.{template_of};
@@ -22,9 +23,9 @@ use mp_build::{
     PatternWildcard, Scope, TextError, Variable, build_condition, is_large_condition,
     is_large_pattern, new_name, normal_pattern, pattern_variables,
 };
-use mp_pattern::{Cond, Rule, Template};
+use mp_pattern::{Cond, Pattern, Rule, Template};
 use mp_syntax::{Condition, Expr, Word};
-use mp_term::Signature;
+use mp_term::{Name, Signature};
 use std::alloc::{AllocError, Global};
 
 /// The condition of a rule over the variables that it may name, where it has one, or its first fault.
@@ -166,6 +167,28 @@ fn rule_results<'a>(
     results_over(alloc, sig, variables, template, condition)
 }
 
+/// The rule of a name, a pattern, and a template and a condition, where it has them.
+pub(crate) fn rule_with(
+    name: Name,
+    pattern: Pattern,
+    results: (Option<Template>, Option<Cond>),
+) -> Rule
+    ensures { rule_tree result ≡ record {
+      name = name;
+      pattern = pattern_tree pattern;
+      template = option_map template_tree results.0;
+      condition = option_map cond_tree results.1;
+    } }
+{
+    let (template, condition) = results;
+    Rule {
+        name,
+        pattern,
+        template,
+        condition,
+    }
+}
+
 /// A rule, with its pattern in normal form and its template as it is written, or its first fault behind its name.
 pub fn build_rule<'a>(
     alloc: Global,
@@ -180,13 +203,8 @@ pub fn build_rule<'a>(
         (λ r. rule_tree r ≡ rule_of sig.now (spot_of name.entry) (expr_tree pattern.now) (arrow_tree template.now)
         (if_tree condition.now)) }
 {
-    let normal = normal_pattern(alloc, sig, pattern)?;
-    let (template, condition) = rule_results(alloc, sig, pattern, template, condition)?;
     let name = new_name(alloc, name)?;
-    Ok(Rule {
-        name,
-        pattern: normal,
-        template,
-        condition,
-    })
+    let normal = normal_pattern(alloc, sig, pattern)?;
+    let results = rule_results(alloc, sig, pattern, template, condition)?;
+    Ok(rule_with(name, normal, results))
 }

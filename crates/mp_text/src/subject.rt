@@ -1,6 +1,7 @@
 //! Reads subjects without a tree of their expressions.
 
-ghost use Rattle.std.specs.Prelude.{◌≡◌, ◌<◌, ◌++◌, ◌∷◌, List, [], false, length, IfOk, IfSome, IfNone};
+ghost use Rattle.std.specs.Prelude.{◌≡◌, ◌<◌, ◌++◌, ◌∷◌, ℕ, List, [], false, length, IfOk, IfSome, IfNone};
+ghost use Rattle.std.specs.Prelude.{IsTrue, IsFalse};
 ghost use Rattle.mp_term.specs.Signature.{Sig};
 ghost use Rattle.mp_term.specs.View.{tree};
 ghost use Rattle.mp_pattern.specs.declared.limits.TheConstants.{MAX_SUBJECTS};
@@ -13,13 +14,13 @@ ghost use Rattle.mp_build.specs.Build.{term_of};
 ghost use Rattle.mp_build.specs.Checks.{name_faults, term_faults};
 ghost use Rattle.mp_build.specs.Names.{subject_names};
 ghost use Rattle.mp_text.specs.Draft.{IsDraftOf};
+ghost use Rattle.mp_text.specs.InOrder.{IsDraftRead};
 ghost use Rattle.mp_text.specs.ReadTerm.{IsSubjectRead};
 
-use crate::file::Subject;
 use crate::heading::named;
-use crate::reader::{Draft, add_statement_name};
+use crate::reader::{Draft, add_statement_name, push_subject};
 use crate::term_reader::read_term;
-use mp_build::{TextError, new_name, normal_built};
+use mp_build::{TextError, normal_built};
 use mp_parser::parser::Parser;
 use mp_parser::token::Punct;
 use mp_pattern::MAX_SUBJECTS;
@@ -27,9 +28,28 @@ use mp_syntax::{MAX_OPEN, Word};
 use mp_term::{MAX_TERM_NODES, Memory, Signature, Term};
 use std::alloc::Global;
 
-/// Reads the statement of a subject, and gives its name and its term as it is written. None says nothing of the tokens,
-/// of which none is passed then.
-pub(crate) fn read_subject<'a>(
+/// Adds the subject whose statement comes next, its term in normal form, or finds the fault of its name. False says
+/// nothing of the tokens; then none is passed, and the draft is as it was.
+pub(crate) fn add_next_subject<'a>(
+    alloc: Global,
+    draft: &mut Draft<'a>,
+    parser: &mut Parser<'a>,
+) -> Result<bool, TextError>
+    ensures added { IfOk result (λ b. IsTrue b → (bytes : List ℕ) → IsDraftRead bytes parser.old draft.old
+        → IsDraftRead bytes parser.new draft.new) }
+    ensures shorter { IfOk result (λ b. IsTrue b → length (ahead parser.new) < length (ahead parser.old)) }
+    ensures kept { IfOk result (λ b. IsFalse b → (parser.new ≡ parser.old) × (draft.new ≡ draft.old)) }
+{
+    let Some((name, term)) = read_subject(alloc, &draft.file.sig, parser)? else {
+        return Ok(false);
+    };
+    add_term(alloc, draft, name, term)?;
+    Ok(true)
+}
+
+// Reads the statement of a subject, and gives its name and its term as it is written. None says nothing of the tokens,
+// of which none is passed then.
+fn read_subject<'a>(
     alloc: Global,
     sig: &Signature,
     parser: &mut Parser<'a>,
@@ -70,8 +90,8 @@ fn subject_at<'a>(
     Ok(Some((name, term)))
 }
 
-/// Adds a subject of this term, which is put in normal form, or finds the fault of its name.
-pub(crate) fn add_term<'a>(
+// Adds a subject of this term, which is put in normal form, or finds the fault of its name.
+fn add_term<'a>(
     alloc: Global,
     draft: &mut Draft<'a>,
     name: Word<'a>,
@@ -86,7 +106,6 @@ pub(crate) fn add_term<'a>(
 {
     add_statement_name(&mut draft.subject_names, name, MAX_SUBJECTS, false)?;
     let term = normal_built(alloc, &draft.file.sig, term)?;
-    let name = new_name(alloc, name)?;
-    draft.file.subjects.push(Subject { name, term })?;
+    push_subject(alloc, &mut draft.file.subjects, name, term)?;
     Ok(())
 }

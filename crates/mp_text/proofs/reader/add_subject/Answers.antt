@@ -1,4 +1,4 @@
-use Rattle.std.proofs.Common.{◌∙◌}
+use Rattle.std.proofs.Common.{refl, ◌∙◌}
 use Rattle.std.proofs.lemmas.Result.{err_from_is_err_and}
 use Rattle.mp_parser.specs.View.{spot_of, expr_tree}
 use Rattle.mp_pattern.specs.declared.limits.TheConstants.{MAX_SUBJECTS}
@@ -27,7 +27,7 @@ returns c = λ sig earlier d.
     let built = rw (draft_sig sig earlier c.args.draft.now d) at c.in_ok-term.ensures in (
       none-append _ _ (rw (d.subjects, c.is_large_term-is_large.ensures) at named.0) ∙ built.0,
       draft-subject sig earlier c.args.draft.now d (spot_of c.args.name) (expr_tree c.args.term.now) _ _ _ _
-          c.in_ok-push.ensures.ok c.in_ok-name.ensures.1 built.1 named.1
+          c.in_ok-push_subject.ensures.1 refl built.1 named.1
           (named-by MAX_SUBJECTS c.args.draft.now.subject_names c.is_large_term-is_large.result (spot_of c.args.name)
           named.0).few,
     )

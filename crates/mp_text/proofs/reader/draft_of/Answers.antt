@@ -1,62 +1,37 @@
-use Rattle.std.proofs.Common.{map, take, length, arith, refl, sym, ap, ◌∙◌}
-use Rattle.std.proofs.lemmas.List.{take_all, drop_all}
-use Rattle.std.proofs.lemmas.Result.{err_from_is_err_and}
-use Rattle.mp_term.proofs.ListLaws.{drop-item}
+use Rattle.std.proofs.Common.{List, [], map, Result, Ok, Err, sym, subst, ◌∙◌}
+use Rattle.std.specs.Result.{result_and}
 use Rattle.mp_parser.specs.View.{statement_tree}
+use Rattle.mp_build.specs.declared.fault.TextFault.{TextFault}
+use Rattle.mp_build.specs.declared.fault.TextError.{TextError}
+use Rattle.mp_build.specs.Answers.{Gives}
 use Rattle.mp_build.specs.Build.{sig_of}
-use Rattle.mp_build.specs.Checks.{faults_by}
-use Rattle.mp_build.proofs.Declared.{so_far-item}
-use Rattle.mp_build.proofs.Fails.{fails-front, fails-behind, fails-along, none-append}
+use Rattle.mp_build.specs.Checks.{faults_by, declaration_faults}
+use Rattle.mp_build.proofs.Fails.{gives-behind}
+use Rattle.mp_text.specs.Draft.{IsDraftOf}
 use Rattle.mp_text.specs.FileChecks.{statement_faults}
+use Rattle.mp_text.proofs.Draft.{draft_sig}
 use Rattle.mp_text.proofs.reader.draft_of.Goals as goal
 
-pub loop-statement-init : goal.loop-statement-init
-loop-statement-init c = record {
-  built = record {
-    file = rw (c.in_ok-sig.ensures.1, c.rules_with_room.ensures, c.with_room.ensures, c.new.ensures) refl;
-    rules = c.with_room-2.ensures;
-    subjects = c.with_room-3.ensures;
-    few = omega (arith, ap length c.with_room-3.ensures);
-  };
-  faults = refl;
-}
+-- what was made is given where nothing fails
+gives-and : {T : Type 0} (r : Result (Unit {0}) TextError) (v : T) (fs : List TextFault) (P : T → Type 0)
+    → Gives r fs (λ _. P v) → Gives (result_and r (Ok v)) fs P
+gives-and (Ok done) v fs P g = g
+gives-and (Err e) v fs P g = g
 
-pub loop-statement-preserved : goal.loop-statement-preserved
-loop-statement-preserved c =
-    let ss = c.args.statements.now in
-    let index = c.loop-statement.statement-index in
-    let was = c.loop-statement.invariant in
-    let added = c.in_ok-add_statement.ensures (sig_of (map statement_tree ss)) (map statement_tree (take index ss))
-    was.built in
-    let more = so_far-item ss index c.statement-item.result (omega arith) c.statement-item.is in
-    let here = drop-item ss index c.statement-item.result (omega arith) c.statement-item.is in
-    rw more (record { built = added.1; faults = sym (none-append _ _ added.0) ∙ (rw here at was.faults) })
-
-pub returns-in_err-add_statement : goal.returns-in_err-add_statement
-returns-in_err-add_statement c =
-    let p = err_from_is_err_and c.from_residual-in_err-add_statement.result
-    c.from_residual-in_err-add_statement.ensures.1 in
-    let e = c.in_err-add_statement.field-0.0 in
-    let ss = c.args.statements.now in
-    let index = c.loop-statement.statement-index in
-    let was = c.loop-statement.invariant in
-    let rule = statement_faults (sig_of (map statement_tree ss)) in
-    let before = map statement_tree (take index ss) in
-    let here = drop-item ss index c.statement-item.result (omega arith) c.statement-item.is in
-    rw (p.1, p.2)
-    (fails-behind e _ _ c.in_ok-sig.ensures.0
-    (fails-along e _ _ (ap (λ l. faults_by rule before (map statement_tree l)) (sym here) ∙ was.faults)
-    (fails-front e (rule before (statement_tree c.statement-item.result)) _
-    (c.in_err-add_statement.ensures _ before was.built))))
+pub add_statements-requires : goal.add_statements-requires
+add_statements-requires c =
+    let draft = c.empty_draft-draft.result in
+    subst (λ sig. IsDraftOf sig [] draft) (sym (draft_sig _ [] draft c.empty_draft-draft.ensures))
+    c.empty_draft-draft.ensures
 
 pub returns : goal.returns
 returns c =
-    let ss = c.args.statements.now in
-    let index = c.loop-statement.statement-index in
-    let was = c.loop-statement.invariant in
-    let sig = sig_of (map statement_tree ss) in
-    let none = drop_all index ss (omega arith) in (
-      none-append _ _ c.in_ok-sig.ensures.0 ∙ sym was.faults
-          ∙ ap (λ l. faults_by (statement_faults sig) (map statement_tree (take index ss)) (map statement_tree l)) none,
-      rw (take_all index ss (omega arith)) at was.built,
-    )
+    let ss = map statement_tree c.args.statements.now in
+    let others = faults_by (statement_faults (sig_of ss)) [] ss in
+    let draft = c.add_statements.new.draft in
+    let sig = draft_sig _ [] c.empty_draft-draft.result c.empty_draft-draft.ensures ∙ c.in_ok-sig.ensures.1 in
+    rw c.and.ensures
+    (gives-behind (result_and c.add_statements.result (Ok draft)) (declaration_faults ss) others
+    (λ d. IsDraftOf (sig_of ss) ss d) c.in_ok-sig.ensures.0
+    (gives-and c.add_statements.result draft others (λ d. IsDraftOf (sig_of ss) ss d)
+    (rw sig at c.add_statements.ensures)))

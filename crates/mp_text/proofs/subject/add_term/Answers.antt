@@ -1,4 +1,4 @@
-use Rattle.std.proofs.Common.{ap, ◌∙◌}
+use Rattle.std.proofs.Common.{refl, ap, ◌∙◌}
 use Rattle.std.proofs.lemmas.Result.{err_from_is_err_and}
 use Rattle.mp_term.specs.Normal.{normal}
 use Rattle.mp_parser.specs.View.{spot_of}
@@ -21,7 +21,7 @@ returns c = λ sig earlier e d same.
     let named = c.in_ok-add_statement_name.ensures in
     let built = rw (draft_sig sig earlier c.args.draft.now d) at c.in_ok-term.ensures.1 in (
       rw d.subjects at named.0,
-      draft-subject sig earlier c.args.draft.now d (spot_of c.args.name) e _ _ _ _ c.in_ok-push.ensures.ok
-          c.in_ok-name.ensures.1 (built ∙ ap (normal sig) same) named.1
+      draft-subject sig earlier c.args.draft.now d (spot_of c.args.name) e _ _ _ _ c.in_ok-push_subject.ensures.1
+          refl (built ∙ ap (normal sig) same) named.1
           (named-by MAX_SUBJECTS c.args.draft.now.subject_names _ (spot_of c.args.name) named.0).few,
     )
