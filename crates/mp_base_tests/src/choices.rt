@@ -4,6 +4,7 @@ ghost use Rattle.std.specs.Prelude.{◌≡◌, ◌≤◌, length as list_length,
 ghost use Rattle.mp_choice.specs.Splits.{leasts};
 ghost use Rattle.mp_choice.specs.declared.limits.TheConstants.{MAX_TOTAL};
 
+use crate::values::check;
 use mp_choice::{Equations, MAX_TOTAL, Part, Splits, SubBags};
 use std::alloc::Global;
 use std::process::Abort;
@@ -221,6 +222,6 @@ fn is_refused(rt: &impl Abort, alloc: Global, row: &(&[u32], u32, &str)) -> bool
 #[test]
 fn coefficients_of_zero_are_refused(rt: HostRuntime) {
     for row in REFUSED {
-        assert!(rt; is_refused(&rt, rt.alloc(), row), "{}", row.2);
+        check(&rt, is_refused(&rt, rt.alloc(), row), row.2);
     }
 }

@@ -7,6 +7,7 @@ ghost use Rattle.mp_cond.specs.Verdict.{AreHeld};
 
 use crate::bound::{plan, signature, table, trail};
 use crate::conditions::{condition, headed};
+use crate::values::check;
 use mp_cond::{Verdict, decide, holds};
 use mp_pattern::{Cond, Plan};
 use mp_subst::{Subst, Trail};
@@ -188,10 +189,8 @@ fn have_answer(
     requires { GoesWith table.now trail.now }
 {
     for line in lines.split('\n') {
-        assert!(rt;
-            is_line(rt, alloc, sig, plan, trail, table, subst, line, answer),
-            "{line}"
-        );
+        let is_line = is_line(rt, alloc, sig, plan, trail, table, subst, line, answer);
+        check(rt, is_line, line);
     }
 }
 

@@ -1,5 +1,6 @@
 //! The devices, real and in memory.
 
+use crate::values::check;
 use mp_io::{
     Failed, MemoryShelf, MemorySink, ReadFault, RealShelf, RealSink, Writer, put, put_all, put_gap,
     put_number, read_whole,
@@ -217,7 +218,7 @@ fn are_put(rt: &impl Abort, alloc: Global, numbers: &[u32], text: &str) -> bool 
 #[test]
 fn numbers_are_put_with_a_separator_between_each_two(rt: HostRuntime) {
     for (numbers, text) in LISTS {
-        assert!(rt; are_put(&rt, rt.alloc(), numbers, text), "{text}");
+        check(&rt, are_put(&rt, rt.alloc(), numbers, text), text);
     }
 }
 

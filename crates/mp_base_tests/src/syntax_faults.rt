@@ -1,6 +1,7 @@
 //! The first faults of texts, by tokens and grammar.
 
 use crate::syntax_texts::{Sort, error, expanded};
+use crate::values::check;
 use mp_syntax::{Fault, Place, SyntaxError, first_token_place};
 use std::alloc::Global;
 use std::process::Abort;
@@ -287,7 +288,7 @@ const TABLES: &[(Sort, &str)] = &[
 // Sees that each text of the table has its fault.
 fn are_first(rt: &impl Abort, alloc: Global, sort: Sort, table: &str) {
     for line in table.split('\n') {
-        assert!(rt; is_first(rt, alloc, sort, line), "{line}");
+        check(rt, is_first(rt, alloc, sort, line), line);
     }
 }
 

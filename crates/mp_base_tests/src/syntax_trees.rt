@@ -1,6 +1,7 @@
 //! The syntax trees of texts.
 
 use crate::syntax_texts::{Sort, expanded, told};
+use crate::values::check;
 use std::alloc::Global;
 use std::process::Abort;
 
@@ -98,7 +99,7 @@ fn is_tree(rt: &impl Abort, alloc: Global, row: &(Sort, &str, &str)) -> bool {
 #[test]
 fn trees_keep_words_and_places(rt: HostRuntime) {
     for row in TREES {
-        assert!(rt; is_tree(&rt, rt.alloc(), row), "{}", row.1);
+        check(&rt, is_tree(&rt, rt.alloc(), row), row.1);
     }
 }
 

@@ -2,7 +2,7 @@
 
 ghost use Rattle.std.specs.Prelude.{◌≡◌};
 
-use crate::values::{name, names, no_operations, operation, term, terms};
+use crate::values::{check, name, names, no_operations, operation, term, terms};
 use mp_term::{
     Edit, Edits, KindId, Name, OpDecl, Position, Sign, Signature, Term, Terms, copy_term,
     node_count, normalise, same_bytes, well_formed,
@@ -63,22 +63,23 @@ const SPELLINGS: &[(&str, bool, bool)] = &[
 ];
 
 // Whether the text is a name, and that of its copy too.
-fn is_copied(alloc: Global, text: &[u8]) -> bool {
-    Name::new(alloc, text).is_ok_and(|name| name.copy(alloc).is_ok_and(|copy| copy.bytes() == text))
+fn is_copied(rt: &impl Abort, alloc: Global, text: &[u8]) -> bool {
+    match Name::new(alloc, text) {
+        Ok(name) => name.copy(alloc).expect(rt, "memory").bytes() == text,
+        Err(_) => false,
+    }
 }
 
-// Whether the text is a name, and whether it is a sign.
-fn is_spelt(alloc: Global, text: &[u8], is_name: bool, is_sign: bool) -> bool {
-    is_copied(alloc, text) == is_name && Sign::new(alloc, text).is_ok() == is_sign
+// Whether the text is a name where the row says so, and a sign where it says so.
+fn is_spelt(rt: &impl Abort, alloc: Global, row: &(&str, bool, bool)) -> bool {
+    let text = row.0.as_bytes();
+    is_copied(rt, alloc, text) == row.1 && Sign::new(alloc, text).is_ok() == row.2
 }
 
 #[test]
 fn names_and_signs_are_spelt(rt: HostRuntime) {
-    for (text, is_name, is_sign) in SPELLINGS {
-        assert!(rt;
-            is_spelt(rt.alloc(), text.as_bytes(), *is_name, *is_sign),
-            "{text}"
-        );
+    for row in SPELLINGS {
+        check(&rt, is_spelt(&rt, rt.alloc(), row), row.0);
     }
 }
 
@@ -150,9 +151,9 @@ fn edits_are_listed(rt: HostRuntime) {
     assert!(rt; edits.len() == 1 && edits.get(0).is_some());
 }
 
-// The symbol.
-fn is_symbol(term: &Term, text: &[u8]) -> bool {
-    matches!(term, Term::Sym(name) if name.bytes() == text)
+// Whether there is a term, the symbol.
+fn is_symbol(term: Option<&Term>, text: &[u8]) -> bool {
+    matches!(term, Some(Term::Sym(name)) if name.bytes() == text)
 }
 
 #[test]
@@ -160,6 +161,6 @@ fn a_term_is_replaced_at_its_index(rt: HostRuntime) {
     let mut terms = terms(&rt, rt.alloc(), b"abc");
     assert!(rt; terms.len() == 3, "terms");
     let before = terms.replace(1, term(&rt, rt.alloc(), b"d"));
-    assert!(rt; is_symbol(&before, b"b"));
-    assert!(rt; terms.get(1).is_some_and(|now| is_symbol(now, b"d")));
+    assert!(rt; is_symbol(Some(&before), b"b"));
+    assert!(rt; is_symbol(terms.get(1), b"d"));
 }

@@ -1,7 +1,7 @@
 //! Resume tokens that are read and printed again, and texts that are none.
 
 use crate::syntax_texts::expanded;
-use crate::values::name;
+use crate::values::{check, name};
 use mp_io::MemorySink;
 use mp_table::Rank;
 use mp_token::{Token, TokenEntries, TokenFault, read_token, write_token};
@@ -82,9 +82,10 @@ fn is_token(rt: &impl Abort, alloc: Global, text: &[u8], entries: &[Entry]) -> b
 #[test]
 fn tokens_are_read_and_printed(rt: HostRuntime) {
     for (text, entries) in TOKENS {
-        assert!(rt;
+        check(
+            &rt,
             is_token(&rt, rt.alloc(), text.as_bytes(), entries),
-            "{text}"
+            text,
         );
     }
 }
@@ -133,6 +134,6 @@ fn is_refused(alloc: Global, bytes: &[u8], wanted: Option<u64>) -> bool {
 fn texts_that_are_no_tokens_are_refused(rt: HostRuntime) {
     for (text, at) in TEXTS {
         let bytes = expanded(&rt, rt.alloc(), text);
-        assert!(rt; is_refused(rt.alloc(), &bytes, *at), "{text}");
+        check(&rt, is_refused(rt.alloc(), &bytes, *at), text);
     }
 }

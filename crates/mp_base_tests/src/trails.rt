@@ -7,7 +7,7 @@ ghost use Rattle.mp_table.specs.Table.{HasRanks, rank_cmp};
 ghost use Rattle.mp_subst.specs.Bound.{AreRanksOf};
 ghost use Rattle.mp_subst.specs.Trail.{GoesWith, cut};
 
-use crate::values::{is_value, name, no_operations, plan_of, push_wildcards, table_of};
+use crate::values::{check, is_value, name, no_operations, plan_of, push_wildcards, table_of};
 use mp_pattern::{Form, Pattern, Patterns, Plan};
 use mp_subst::{Subst, Trail, same_rank_multiset};
 use mp_table::{Rank, Table};
@@ -261,9 +261,10 @@ fn a_trail_is_read_as_a_substitution(rt: HostRuntime) {
     let table = table(&rt, rt.alloc());
     let plan = plan(&rt, rt.alloc());
     for text in VALUES {
-        assert!(rt;
+        check(
+            &rt,
             is_read(&rt, rt.alloc(), &table, &plan, text.as_bytes()),
-            "{text}"
+            text,
         );
     }
 }
@@ -289,6 +290,6 @@ fn are_alike(rt: &impl Abort, alloc: Global, table: &Table, row: &(&str, &str, b
 fn ranks_are_alike_in_any_order(rt: HostRuntime) {
     let table = table(&rt, rt.alloc());
     for row in LETTERS {
-        assert!(rt; are_alike(&rt, rt.alloc(), &table, row), "{}", row.0);
+        check(&rt, are_alike(&rt, rt.alloc(), &table, row), row.0);
     }
 }

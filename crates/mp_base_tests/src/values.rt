@@ -12,6 +12,11 @@ use mp_term::{
 use std::alloc::Global;
 use std::process::Abort;
 
+/// Stops with the text unless that holds.
+pub(crate) fn check(rt: &impl Abort, holds: bool, text: &str) {
+    assert!(rt; holds, "{text}");
+}
+
 /// The name of that spelling.
 pub(crate) fn name(rt: &impl Abort, alloc: Global, text: &[u8]) -> Name
     ensures { result ≡ text.now }

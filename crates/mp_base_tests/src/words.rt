@@ -1,5 +1,6 @@
 //! Words of the command line, and the requests that they make.
 
+use crate::values::check;
 use mp_words::{Action, Engine, Request, read_words};
 use std::alloc::Global;
 use std::process::Abort;
@@ -255,13 +256,13 @@ fn are_asking(rt: &impl Abort, alloc: Global, words: &str, asked: Option<&Asked>
 #[test]
 fn words_make_their_requests(rt: HostRuntime) {
     for (words, asked) in REQUESTS {
-        assert!(rt; are_asking(&rt, rt.alloc(), words, Some(asked)), "{words}");
+        check(&rt, are_asking(&rt, rt.alloc(), words, Some(asked)), words);
     }
 }
 
 #[test]
 fn other_words_make_no_request(rt: HostRuntime) {
     for words in OTHERS.split('\n') {
-        assert!(rt; are_asking(&rt, rt.alloc(), words, None), "{words}");
+        check(&rt, are_asking(&rt, rt.alloc(), words, None), words);
     }
 }
