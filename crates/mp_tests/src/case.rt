@@ -1,6 +1,6 @@
 //! Tables of texts and their first faults.
 
-use crate::reading::parts;
+use crate::reading::{check, parts};
 use mp_pattern::Plan;
 use mp_term::Signature;
 use mp_text::{TextError, read_cond, read_file, read_loose_cond, read_pattern, read_term};
@@ -54,14 +54,14 @@ fn error(
     }
 }
 
-// Stops unless this is the error of the text.
-fn check_error(rt: &impl Abort, alloc: Global, text: &str, error: Option<TextError>, wanted: &str) {
+// What is told of the error: nothing where there is none.
+fn told(rt: &impl Abort, alloc: Global, error: Option<TextError>) -> String {
     match error {
-        None => assert!(rt; wanted.is_empty(), "{text}"),
+        None => String::new(alloc),
         Some(TextError::Memory) => panic!(rt; "memory"),
         Some(TextError::Text(fault)) => {
             let told = format!(in alloc; "{:?} {} {}", fault.kind, fault.line, fault.column);
-            assert!(rt; told.expect(rt, "memory").as_str() == wanted, "{text}");
+            told.expect(rt, "memory")
         }
     }
 }
@@ -72,6 +72,7 @@ pub fn check_table(rt: &impl Abort, alloc: Global, sig: &Signature, plan: &Plan,
         let (text, wanted) = parts(rt, line, "|");
         let text = expanded(rt, alloc, table.before, text);
         let error = error(rt, alloc, sig, plan, table.sort, text.as_bytes());
-        check_error(rt, alloc, text.as_str(), error, wanted);
+        let told = told(rt, alloc, error);
+        check(rt, told.as_str() == wanted, text.as_str());
     }
 }

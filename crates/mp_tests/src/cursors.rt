@@ -8,9 +8,11 @@ ghost use Rattle.mp_tests.specs.Matched.{IsMatched};
 use crate::cursor_rows::{ROWS, Row};
 use crate::first_rule::{Wanted, check_file};
 use crate::matched::{Matched, Sizes, begin, is_fit, room};
-use crate::reading::{parts, sink};
+use crate::reading::{check, parts, sink};
 use mp_cursor::{Cursor, NotAnItem, first_subst};
 use mp_io::{MemorySink, put};
+use mp_subst::Subst;
+use mp_term::Signature;
 use mp_text::write_subst;
 use mp_token::{Token, TokenEntries, read_token, write_token};
 use std::alloc::Global;
@@ -94,7 +96,7 @@ fn check_rest(
 ) {
     for line in lines.split('\n') {
         if line == "..." {
-            assert!(rt; has_more(cursor, more), "{lines}");
+            check(rt, has_more(cursor, more), lines);
             return;
         }
         if !line.is_empty() {
@@ -102,7 +104,7 @@ fn check_rest(
             check_item(rt, alloc, m, cursor, line);
         }
     }
-    assert!(rt; !cursor.next() && !cursor.next(), "{lines}");
+    check(rt, !cursor.next() && !cursor.next(), lines);
 }
 
 // The cursor at the item of the token.
@@ -202,19 +204,22 @@ fn check_all_refused(
     }
 }
 
+// Stops unless the substitution is that of the first of the lines.
+fn check_subst(rt: &impl Abort, alloc: Global, sig: &Signature, subst: &Subst, lines: &str) {
+    let (line, _) = parts(rt, lines, "\n");
+    let (_, text) = parts(rt, line, "|");
+    let mut sink = sink(rt, alloc);
+    check(rt, write_subst(sig, subst, &mut sink).is_ok(), line);
+    check(rt, sink.content() == text.as_bytes(), line);
+}
+
 // Stops unless the first substitution is that of the first line, if there is one.
 fn check_first(rt: &impl Abort, alloc: Global, m: Matched<'_>, lines: &str)
     requires { IsMatched m.sig.now (rule_plan m.planned.now) (tree m.subject.now) m.table.now }
 {
     match first_subst(alloc, m.sig, m.planned, m.subject).expect(rt, "memory") {
-        None => assert!(rt; lines.is_empty(), "{lines}"),
-        Some(subst) => {
-            let mut sink = sink(rt, alloc);
-            let (line, _) = parts(rt, lines, "\n");
-            let (_, text) = parts(rt, line, "|");
-            assert!(rt; write_subst(m.sig, &subst, &mut sink).is_ok(), "{line}");
-            assert!(rt; sink.content() == text.as_bytes(), "{line}");
-        }
+        None => check(rt, lines.is_empty(), lines),
+        Some(subst) => check_subst(rt, alloc, m.sig, &subst, lines),
     }
 }
 

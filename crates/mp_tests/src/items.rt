@@ -7,7 +7,7 @@ ghost use Rattle.mp_tests.specs.Matched.{IsMatched};
 
 use crate::first_rule::{Wanted, check_file};
 use crate::matched::Matched;
-use crate::reading::{parts, sink};
+use crate::reading::{check, parts, sink};
 use mp_io::{MemorySink, Writer};
 use mp_one::{Cursor, room_for};
 use mp_print::put_rank;
@@ -194,11 +194,9 @@ pub fn check_items(rt: &impl Abort, alloc: Global, m: Matched<'_>, items: &str)
     let mut cursor = Cursor::begin(room, m.sig, m.planned.rule, &m.planned.plan, m.table);
     let mut sink = sink(rt, alloc);
     let nodes = m.planned.plan.len();
-    assert!(rt;
-        write_items(m.sig, m.table, nodes, &mut cursor, &mut sink),
-        "{items}"
-    );
-    assert!(rt; sink.content() == items.as_bytes(), "{items}");
+    let is_written = write_items(m.sig, m.table, nodes, &mut cursor, &mut sink);
+    check(rt, is_written, items);
+    check(rt, sink.content() == items.as_bytes(), items);
 }
 
 #[test]

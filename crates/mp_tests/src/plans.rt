@@ -93,7 +93,7 @@ const VARIABLES: [(&[u8], Form); 4] = [
 ];
 
 fn is_variable(plan: &Plan, number: u32, name: &[u8], form: Form) -> bool {
-    plan.var_name(number).is_some_and(|it| it.bytes() == name)
+    matches!(plan.var_name(number), Some(own) if own.bytes() == name)
         && plan.var_form(number) == Some(form)
         && plan.find_var(name) == Some(number)
 }

@@ -1,7 +1,7 @@
 //! What is printed straight from ranks in a table.
 
 use crate::alone::DECLARED;
-use crate::reading::{file, parts, plan, sink, term};
+use crate::reading::{check, file, parts, plan, sink, term};
 use mp_io::{MemorySink, Writer};
 use mp_pattern::Form;
 use mp_print::{RankTexts, put_bound, write_trail};
@@ -70,11 +70,38 @@ fn print(sig: &Signature, table: &Table, bound: &Bound<'_>, sink: &mut MemorySin
     out.finish().is_ok()
 }
 
+// Stops unless what is printed of the value is the text.
+fn check_bound(
+    rt: &impl Abort,
+    alloc: Global,
+    sig: &Signature,
+    table: &Table,
+    bound: &Bound<'_>,
+    wanted: &str,
+) {
+    let mut printed = sink(rt, alloc);
+    check(rt, print(sig, table, bound, &mut printed), wanted);
+    check(rt, printed.content() == wanted.as_bytes(), wanted);
+}
+
 // Prints the value by the texts that are kept. Answers whether it was printed.
 fn print_kept(texts: &RankTexts<'_>, bound: &Bound<'_>, sink: &mut MemorySink) -> bool {
     let mut out = Writer::new(sink);
     texts.put_bound(bound, &mut out);
     out.finish().is_ok()
+}
+
+// Stops unless what is printed of the value by the texts that are kept is the text.
+fn check_kept(
+    rt: &impl Abort,
+    alloc: Global,
+    texts: &RankTexts<'_>,
+    bound: &Bound<'_>,
+    wanted: &str,
+) {
+    let mut printed = sink(rt, alloc);
+    check(rt, print_kept(texts, bound, &mut printed), wanted);
+    check(rt, printed.content() == wanted.as_bytes(), wanted);
 }
 
 // Stops unless what is printed of the value, by the texts of small terms too, is what stands behind its bar.
@@ -86,18 +113,16 @@ fn check_value(rt: &impl Abort, alloc: Global, sig: &Signature, table: &Table, v
         wrap: value.1,
         ranks: &ranks,
     };
-    let mut printed = sink(rt, alloc);
-    assert!(rt; print(sig, table, &bound, &mut printed), "{wanted}");
-    assert!(rt; printed.content() == wanted.as_bytes(), "{wanted}");
-    let texts = [
-        RankTexts::plain(alloc, sig, table),
-        RankTexts::build(alloc, sig, table).expect(rt, "memory"),
-    ];
-    for texts in &texts {
-        let mut printed = sink(rt, alloc);
-        assert!(rt; print_kept(texts, &bound, &mut printed), "{wanted}");
-        assert!(rt; printed.content() == wanted.as_bytes(), "{wanted}");
-    }
+    check_bound(rt, alloc, sig, table, &bound, wanted);
+    check_kept(
+        rt,
+        alloc,
+        &RankTexts::plain(alloc, sig, table),
+        &bound,
+        wanted,
+    );
+    let texts = RankTexts::build(alloc, sig, table).expect(rt, "memory");
+    check_kept(rt, alloc, &texts, &bound, wanted);
 }
 
 #[test]

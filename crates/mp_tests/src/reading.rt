@@ -1,6 +1,7 @@
 //! What the texts of tests are read as. A text that isn't read stops its test. What lives long is in a box: one is
 //! quick to prove where it is dropped.
 
+ghost use Rattle.std.specs.Prelude.{◌≤◌, length};
 ghost use Rattle.mp_text.specs.File.{file_tree};
 ghost use Rattle.mp_text.specs.Sound.{IsSoundFile};
 
@@ -11,24 +12,35 @@ use mp_text::{File, read_file, read_loose_cond, read_pattern, read_term};
 use std::alloc::Global;
 use std::process::Abort;
 
+/// Stops with the text unless that holds.
+pub fn check(rt: &impl Abort, holds: bool, text: &str) {
+    assert!(rt; holds, "{text}");
+}
+
 /// What stands before and behind the first mark of a text.
 pub fn parts<'a>(rt: &impl Abort, text: &'a str, mark: &str) -> (&'a str, &'a str) {
     text.split_once(mark).expect(rt, "a text without its mark")
+}
+
+/// The bytes of a text, at most 1,000.
+pub fn bytes<'a>(rt: &impl Abort, text: &'a str) -> &'a [u8]
+    ensures { length result.now ≤ 1000 }
+{
+    assert!(rt; text.len() <= 1000, "{text}");
+    text.as_bytes()
 }
 
 /// The file of a text.
 pub fn file(rt: &impl Abort, alloc: Global, text: &str) -> Box<File>
     ensures { IsSoundFile (file_tree result.value) }
 {
-    assert!(rt; text.len() <= 1000, "{text}");
-    let file = read_file(alloc, text.as_bytes()).expect(rt, text);
+    let file = read_file(alloc, bytes(rt, text)).expect(rt, text);
     Box::new(alloc, file).expect(rt, "memory")
 }
 
 /// The term of a text, in normal form, on its own.
 pub fn bare_term(rt: &impl Abort, alloc: Global, sig: &Signature, text: &str) -> Term {
-    assert!(rt; text.len() <= 1000, "{text}");
-    read_term(alloc, sig, text.as_bytes()).expect(rt, text)
+    read_term(alloc, sig, bytes(rt, text)).expect(rt, text)
 }
 
 /// The same in a box.
@@ -38,15 +50,13 @@ pub fn term(rt: &impl Abort, alloc: Global, sig: &Signature, text: &str) -> Box<
 
 /// The pattern of a text, as it is written.
 pub fn pattern(rt: &impl Abort, alloc: Global, sig: &Signature, text: &str) -> Box<Pattern> {
-    assert!(rt; text.len() <= 1000, "{text}");
-    let pattern = read_pattern(alloc, sig, text.as_bytes()).expect(rt, text);
+    let pattern = read_pattern(alloc, sig, bytes(rt, text)).expect(rt, text);
     Box::new(alloc, pattern).expect(rt, "memory")
 }
 
 /// The condition of a text, whose variables aren't checked.
 pub fn condition(rt: &impl Abort, alloc: Global, sig: &Signature, text: &str) -> Box<Cond> {
-    assert!(rt; text.len() <= 1000, "{text}");
-    let condition = read_loose_cond(alloc, sig, text.as_bytes()).expect(rt, text);
+    let condition = read_loose_cond(alloc, sig, bytes(rt, text)).expect(rt, text);
     Box::new(alloc, condition).expect(rt, "memory")
 }
 
