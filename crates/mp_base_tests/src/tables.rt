@@ -8,7 +8,7 @@ ghost use Rattle.mp_term.specs.declared.limits.TheConstants.{MAX_TERM_NODES};
 ghost use Rattle.mp_table.specs.Table.{HasRank};
 
 use crate::values::{name, no_operations, term};
-use mp_table::{Head, Rank, Table};
+use mp_table::{Head, Rank, Table, compare_apps};
 use mp_term::{MAX_TERM_NODES, OpId, Signature, Term, Terms, is_normal, node_count};
 use std::alloc::Global;
 use std::process::Abort;
@@ -47,7 +47,7 @@ const ROWS: &[Row] = &[
     (5, Some(1), b"", &[Rank(1)], 2),
 ];
 
-// Whether the term of the rank has that head, and is found by it.
+// Whether the term of the rank has that head, and is found and compared by it.
 fn has_head(table: &Table, rank: Rank, op: Option<u32>, text: &[u8]) -> bool
     requires { HasRank table.now rank }
 {
@@ -56,7 +56,11 @@ fn has_head(table: &Table, rank: Rank, op: Option<u32>, text: &[u8]) -> bool
             op.is_none() && name.bytes() == text && table.find_symbol(name) == Some(rank)
         }
         Head::App(own) => {
-            op == Some(own.0) && table.find_app(own, table.args(rank)) == Some(rank)
+            let args = table.args(rank);
+            op == Some(own.0)
+                && table.find_app(own, args) == Some(rank)
+                && table.compare_app(rank, own, args).is_eq()
+                && compare_apps(own, args, OpId(2), args).is_lt()
         }
     }
 }
