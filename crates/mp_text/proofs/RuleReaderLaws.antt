@@ -4,6 +4,8 @@ use Rattle.std.specs.Prelude.{◌||◌, Result, Ok, Err, IfOk}
 use Rattle.std.proofs.lemmas.List.{map-append}
 use Rattle.mp_term.specs.Signature.{Sig}
 use Rattle.mp_pattern.specs.PatternTree.{Pattern}
+use Rattle.mp_parser.specs.Machine.{Top, AfterExpr, InStatement, OfRule, heading, run}
+use Rattle.mp_parser.specs.Tokens.{Placed}
 use Rattle.mp_parser.specs.Syntax.{Tree, Symbol, Apply, InfixOf, Wild, Optional, Counted, Variable, Trees, no_trees}
 use Rattle.mp_parser.specs.Syntax.{more_trees, Condition, Spot, Statement, RuleOf}
 use Rattle.mp_parser.specs.declared.parser.Parser.{Parser}
@@ -20,7 +22,7 @@ use Rattle.mp_text.specs.Draft.{IsDraftOf}
 use Rattle.mp_text.specs.FileChecks.{rule_faults, is_large_rule, statement_faults}
 use Rattle.mp_text.specs.InOrder.{IsDraftRead}
 use Rattle.mp_text.specs.ReadPattern.{IsWholePatternOf}
-use Rattle.mp_text.specs.ReadRule.{IsRuleStartRead, IsRuleEndRead, wildcard_variable}
+use Rattle.mp_text.specs.ReadRule.{IsRuleStartRead, wildcard_variable}
 use Rattle.mp_text.proofs.Draft.{draft_sig}
 use Rattle.mp_text.proofs.InOrderLaws.{IsDraftRead-push}
 
@@ -57,6 +59,11 @@ module _ (sig : Sig) (e : Tree) (p : Pattern) (ws : List PatternWildcard) (whole
       whole.faultless
       ∙ ap (λ vs. arrow_faults vs sig x ++ if_faults sig (Some vs) c)
       (sym (ap (map wildcard_variable) whole.wildcards ∙ map-pattern_wildcards sig e))
+
+-- what stands behind the pattern of a rule is passed: it gives the rule this template and this condition
+abbrev pub IsRuleEndRead : Option Tree → Option Condition → List Placed → List Placed → Type 0
+IsRuleEndRead x c old new = (done : List Statement) (name : Spot) (e : Tree)
+    → run done (AfterExpr (InStatement (heading OfRule name)) [] e) old ≡ run (done ++ RuleOf name e x c ∷ []) Top new
 
 -- a rule whose pattern has no fault is added where all of it was read
 pub IsDraftRead-rule : (r : Result (Unit {0}) TextError) (q behind : Parser) (d new : Draft) (name : Spot) (p : Pattern)

@@ -1,7 +1,7 @@
 -- Rules that are read without a tree of their pattern.
-use Rattle.std.specs.Prelude.{◌≡◌, List, [], ◌∷◌, ◌++◌, Option}
+use Rattle.std.specs.Prelude.{◌≡◌, List, []}
 use Rattle.mp_parser.specs.Tokens.{Placed}
-use Rattle.mp_parser.specs.Syntax.{Spot, Tree, Condition, Statement, RuleOf}
+use Rattle.mp_parser.specs.Syntax.{Spot, Tree, Statement}
 use Rattle.mp_parser.specs.Machine.{Top, AfterExpr, InStatement, OfRule, heading, run}
 use Rattle.mp_build.specs.Scope.{Variable}
 use Rattle.mp_build.specs.Wildcards.{PatternWildcard}
@@ -10,11 +10,6 @@ use Rattle.mp_build.specs.Wildcards.{PatternWildcard}
 abbrev pub IsRuleStartRead : Spot → Tree → List Placed → List Placed → Type 0
 IsRuleStartRead name e old new = (done : List Statement)
     → run done Top old ≡ run done (AfterExpr (InStatement (heading OfRule name)) [] e) new
-
--- what stands behind the pattern of a rule is passed: it gives the rule this template and this condition
-abbrev pub IsRuleEndRead : Option Tree → Option Condition → List Placed → List Placed → Type 0
-IsRuleEndRead x c old new = (done : List Statement) (name : Spot) (e : Tree)
-    → run done (AfterExpr (InStatement (heading OfRule name)) [] e) old ≡ run (done ++ RuleOf name e x c ∷ []) Top new
 
 -- the variable of a wildcard
 abbrev pub wildcard_variable : PatternWildcard → Variable

@@ -16,7 +16,7 @@ ghost use Rattle.mp_text.specs.FileBuild.{rule_of};
 ghost use Rattle.mp_text.specs.FileChecks.{rule_faults, statement_faults};
 ghost use Rattle.mp_text.specs.InOrder.{IsDraftRead};
 ghost use Rattle.mp_text.specs.ReadPattern.{IsWholePatternOf};
-ghost use Rattle.mp_text.specs.ReadRule.{IsRuleStartRead, IsRuleEndRead};
+ghost use Rattle.mp_text.specs.ReadRule.{IsRuleStartRead};
 
 use crate::heading::named;
 use crate::pattern_reader::read_whole_pattern;
@@ -25,9 +25,8 @@ use crate::rule::{has_large_result, results_behind, rule_with};
 use mp_build::{PatternWildcard, TextError, new_name, normal_built_pattern};
 use mp_parser::arena::Arena;
 use mp_parser::parser::Parser;
-use mp_parser::token::Punct;
 use mp_pattern::{MAX_RULES, Pattern, Rule};
-use mp_syntax::{Condition, Expr, SyntaxError, Word};
+use mp_syntax::{Condition, Expr, Word, read_rule_end};
 use mp_term::Signature;
 use std::alloc::Global;
 
@@ -79,21 +78,6 @@ fn add_begun_rule<'a>(
     add_built_rule(
         alloc, draft, name, pattern, wildcards, &template, &condition,
     )
-}
-
-// Reads what stands behind the pattern of a rule: its template and its condition, where it has them, and the semicolon.
-fn read_rule_end<'a>(
-    parser: &mut Parser<'a>,
-    arena: &mut Arena<'a>,
-) -> Result<(Option<&'a Expr<'a>>, Option<Condition<'a>>), SyntaxError>
-    ensures read { IfOk result (λ r.
-        IsRuleEndRead (arrow_tree r.0) (if_tree r.1) (ahead parser.old) (ahead parser.new)) }
-    ensures shorter { OnOk result (length (ahead parser.new) ≤ length (ahead parser.old)) }
-{
-    let template = parser.template(arena)?;
-    let condition = parser.rule_condition(arena)?;
-    parser.expect(Punct::Semicolon)?;
-    Ok((template, condition))
 }
 
 // A rule of this pattern, which is put in normal form, with its template as it is written, or its first fault behind
