@@ -121,7 +121,8 @@ module _ (t : Table) (is : IsTable t) (w : Tree) (none : rank_of t w ≡ None) w
             (ap (same_term v) (sym e) ∙ missing-same_term v i)
 
         go : (vs : List Tree) → AllByRecursion (λ v. In v t.terms) vs
-            → list_all (λ v. list_all (λ u. not (occurs v u)) (w ∷ [])) vs ≡ list_all (λ v. list_all (λ u. not (occurs v u)) us) vs
+            → list_all (λ v. list_all (λ u. not (occurs v u)) (w ∷ [])) vs
+            ≡ list_all (λ v. list_all (λ u. not (occurs v u)) us) vs
         go [] k = refl
         go (v ∷ vs) k =
             λ j. (alone v ∙ ap not (below v k.0) ∙ sym (list_all-occurs v us)) j && go vs k.1 j

@@ -20,7 +20,8 @@ module _ (t : Table) (rs : List Rank) where
 
   -- a test of the term at an index, and of those behind it
   pub list_all-terms_behind : (test : Tree → Bool) (i : ℕ) (d : Rank) (b : Bool) → i < length rs
-      → b ≡ test (term_at t (get_or rs i d)) → b && list_all test (terms_behind (i + 1)) ≡ list_all test (terms_behind i)
+      → b ≡ test (term_at t (get_or rs i d))
+      → b && list_all test (terms_behind (i + 1)) ≡ list_all test (terms_behind i)
   list_all-terms_behind test i d b h e =
       let r = get_or rs i d in
       ap (λ v. v && list_all test (terms_behind (i + 1))) e
