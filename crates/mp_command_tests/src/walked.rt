@@ -145,6 +145,18 @@ t r {x -> a, y -> p(b, a), z -> b}
 u r {x -> b, y -> c, z -> a}
 ----
 ====
+0 match t --engine many
+----
+op g 0+; op h 0+; op k 0+; op s 0+ comm;
+rule last: g(x___, a); rule pair: h(x___, y_, z_); rule sum: k(x___, s(y_, z_), b);
+subject t: g(a, b, a); subject u: h(a, b, c); subject v: k(a, s(b, c), b); subject n: h(a);
+----
+t last {x -> (a, b)}
+u pair {x -> (a), y -> b, z -> c}
+v sum {x -> (a), y -> b, z -> c}
+v sum {x -> (a), y -> c, z -> b}
+----
+====
 0 --limit=1 match --engine=many t
 ----
 op s 0+ comm; rule r: s(x_, y_); subject t: s(b, a);

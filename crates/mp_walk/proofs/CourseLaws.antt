@@ -31,12 +31,30 @@ module _ (sig : Sig) (code : List Instr) where
       ∙ append_assoc (read_to_come sig code (before ++ table_read code (m ∷ ls)) l)
       (reads_to_come sig code (before ++ read_entries code m) ls) (read_to_come sig code before m)
 
-  -- no way is left, and what stands beside the token comes next
+  -- where the same comes of the steps from another way on, the same is to come
+  pub later-to_come : (before : Table) (l : Read) (from : ℕ) (i : Instr) → instr_at code l.instr ≡ Some i
+      → flat_map (after_step sig code l.instr i before) (steps_left sig i.token l)
+      ≡ flat_map (after_step sig code l.instr i before) (steps_left sig i.token (record l { next = from }))
+      → read_to_come sig code before l ≡ read_to_come sig code before (record l { next = from })
+  later-to_come before l from i held same =
+      ap (λ o. elim o as (λ _. List (ℕ × Table)) [ None ↦ [] | Some j ↦ of_read sig code before l j ]) held
+      ∙ ap (λ is. is ++ walk_from sig code i.over l.state before) same
+      ∙ sym (ap (λ o. elim o as (λ _. List (ℕ × Table))
+      [ None ↦ [] | Some j ↦ of_read sig code before (record l { next = from }) j ]) held)
+
+  -- nothing comes of the steps that are left, and what stands beside the token comes next
+  pub idle-to_come : (before : Table) (l : Read) (i : Instr) → instr_at code l.instr ≡ Some i
+      → flat_map (after_step sig code l.instr i before) (steps_left sig i.token l) ≡ []
+      → read_to_come sig code before l ≡ walk_from sig code i.over l.state before
+  idle-to_come before l i held idle =
+      ap (λ o. elim o as (λ _. List (ℕ × Table)) [ None ↦ [] | Some j ↦ of_read sig code before l j ]) held
+      ∙ ap (λ is. is ++ walk_from sig code i.over l.state before) idle
+
+  -- no way is left
   pub over-to_come : (before : Table) (l : Read) (i : Instr) → instr_at code l.instr ≡ Some i
       → steps_left sig i.token l ≡ [] → read_to_come sig code before l ≡ walk_from sig code i.over l.state before
   over-to_come before l i held none =
-      ap (λ o. elim o as (λ _. List (ℕ × Table)) [ None ↦ [] | Some j ↦ of_read sig code before l j ]) held
-      ∙ ap (λ rs. flat_map (after_step sig code l.instr i before) rs ++ walk_from sig code i.over l.state before) none
+      idle-to_come before l i held (ap (flat_map (after_step sig code l.instr i before)) none)
 
   -- a step is taken: what it puts out, and what stands below it, come before what is left
   pub down-to_come : (before : Table) (l m : Read) (i : Instr) (r : Step) → instr_at code l.instr ≡ Some i

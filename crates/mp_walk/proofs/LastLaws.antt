@@ -179,9 +179,10 @@ module _ (c : Course) (C : IsCourse c) where
         (sym mark) C.levels)
 
     -- it stands behind the levels
-    pub new-standing : l.frames ≡ length c.frames.items → l.next ≡ 0 → search_of l ≡ None
+    pub new-standing : l.frames ≡ length c.frames.items → search_of l ≡ None
+        → IsOwed c.set.sig.now c.set.code.now.instrs (read_of c.set.table.now c.frames.items c.trail l)
         → StandsBehind c.set c.frames.items c.trail c.levels.items l
-    new-standing frames next search = record {
+    new-standing frames search owed = record {
       setting = C.setting;
       frames = C.frames;
       trail = C.trail;
@@ -190,6 +191,6 @@ module _ (c : Course) (C : IsCourse c) where
       places = omega (arith, frames);
       marks = omega (arith, mark);
       chained = new-chained;
-      owed = new-owed next search;
+      owed = owed;
       ended = C.ended;
     }

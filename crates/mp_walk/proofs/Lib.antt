@@ -47,4 +47,6 @@ pub mod NamedLaws
 pub mod FoundLaws
 pub mod FoundRuns
 pub mod FirstLaws
+pub mod MostLaws
+pub mod LaterWays
 pub mod SpentLaws

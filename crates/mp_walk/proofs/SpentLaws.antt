@@ -1,9 +1,10 @@
 -- What holds of a course when a token that has no step left is passed over.
 use Rattle.std.proofs.Common.{◌≡◌, ◌<◌, ℕ, true, List, [], ◌++◌, map, take, refl, ap, sym, ◌∙◌, subst}
 use Rattle.std.proofs.Common.{arith}
-use Rattle.std.specs.Prelude.{Option, Some, None, IsSome, option_map, slice_get}
+use Rattle.std.specs.Prelude.{Option, Some, None, IsSome, flat_map, option_map, slice_get}
 use Rattle.std.proofs.lemmas.Bool.{false_from_ne_true}
 use Rattle.mp_term.specs.Signature.{Sig}
+use Rattle.mp_pattern.specs.Fits.{Table}
 use Rattle.mp_pattern.specs.NetTokens.{NetToken, sym_token, enter_token, leave_token, wild_token, comm_token}
 use Rattle.mp_pattern.specs.Value.{Subst}
 use Rattle.mp_subst.specs.Trail.{Trail, length_at, cut}
@@ -16,7 +17,7 @@ use Rattle.mp_walk.specs.declared.key.InstrKey.{InstrKey}
 use Rattle.mp_walk.specs.declared.level.Level.{Level}
 use Rattle.mp_walk.specs.declared.setting.Setting.{Setting}
 use Rattle.mp_walk.specs.Below.{below_ahead}
-use Rattle.mp_walk.specs.Course.{Read, unread, reads_to_come, table_read, to_come_in, steps_left}
+use Rattle.mp_walk.specs.Course.{Read, after_step, unread, reads_to_come, table_read, to_come_in, steps_left}
 use Rattle.mp_walk.specs.CourseView.{reads_of, course_of, course_to_come, LeadsTo, IsCourse, StandsBehind, IsLeftBehind}
 use Rattle.mp_walk.specs.CourseVisits.{course_visits, visits_from, visits_behind}
 use Rattle.mp_walk.specs.Instrs.{Instr, instr_at}
@@ -29,14 +30,14 @@ use Rattle.mp_table.specs.Table.{subject_of}
 use Rattle.mp_walk.specs.Ways.{HasNoWay, is_first_symbol}
 use Rattle.mp_walk.proofs.ChainLaws.{alike-same, chain-end}
 use Rattle.mp_walk.proofs.CodePaths.{over-target, instr-there}
-use Rattle.mp_walk.proofs.CourseLaws.{over-to_come}
+use Rattle.mp_walk.proofs.CourseLaws.{idle-to_come}
 use Rattle.mp_walk.proofs.DownLaws.{if-some}
 use Rattle.mp_walk.proofs.OpenLaws.{opens-is}
 use Rattle.mp_walk.proofs.StandingLaws.{front-opens, front-search, left, behind_to_come, kept-reads, kept-read}
 use Rattle.mp_walk.proofs.StandingLaws.{kept-to_come}
 use Rattle.mp_walk.proofs.StepLaws.{step-none}
 use Rattle.mp_walk.proofs.TurnLaws.{opens-ordered, new-to_come}
-use Rattle.mp_walk.proofs.VisitLaws.{unread-visits, over-visits}
+use Rattle.mp_walk.proofs.VisitLaws.{unread-visits, beside-visits}
 use Rattle.mp_walk.proofs.WayLaws.{no-symbol}
 
 -- no step is left of a token that has no way
@@ -73,10 +74,19 @@ instr-seen : (o : Option Instr) (own : InstrKey) → option_map instr_key o ≡ 
 instr-seen None own e = cc
 instr-seen (Some i) own e = (i, refl, cc)
 
--- nothing of the token is read yet
+-- nothing comes of the steps of a token of which nothing is read yet
+abbrev pub IsPassed : Course → ℕ → Instr → Type 0
+IsPassed c n i = (before : Table)
+    → flat_map (after_step c.set.sig.now c.set.code.now.instrs n i before)
+    (steps_left c.set.sig.now i.token (unread n (course_of c).present)) ≡ []
+
+-- so it is where it has none
+pub none-passed : (c : Course) (n : ℕ) (i : Instr)
+    → steps_left c.set.sig.now i.token (unread n (course_of c).present) ≡ [] → IsPassed c n i
+none-passed c n i none before = ap (flat_map (after_step c.set.sig.now c.set.code.now.instrs n i before)) none
+
 module _ (c : Course) (C : IsCourse c) (n : ℕ) (e : c.target ≡ Some n) (i : Instr)
-    (held : instr_at c.set.code.now.instrs n ≡ Some i)
-    (nothing : steps_left c.set.sig.now i.token (unread n (course_of c).present) ≡ []) where
+    (held : instr_at c.set.code.now.instrs n ≡ Some i) (nothing : IsPassed c n i) where
   abbrev passed : Course
   passed = record c { target = i.over }
 
@@ -118,7 +128,7 @@ module _ (c : Course) (C : IsCourse c) (n : ℕ) (e : c.target ≡ Some n) (i : 
       ∙ new-to_come sig code C.setting.walkable reads n i p held
       (opens-ordered sig c.set.table.now c.frames.items C.frames c.place C.place)
       ∙ ap (λ is. is ++ reads_to_come sig code [] reads)
-      (over-to_come sig code (table_read code reads) (unread n p) i held nothing))
+      (idle-to_come sig code (table_read code reads) (unread n p) i held (nothing (table_read code reads))))
 
   -- and less is to be read
   pub passed-less : course_visits passed < course_visits c
@@ -129,7 +139,7 @@ module _ (c : Course) (C : IsCourse c) (n : ℕ) (e : c.target ≡ Some n) (i : 
       let target = ap (λ o. visits_from sig code o p) e in
       let visits = unread-visits sig code C.setting.walkable n i p held
       (opens-ordered sig c.set.table.now c.frames.items C.frames c.place C.place) in
-      let over = over-visits sig code (unread n p) i held nothing in
+      let over = beside-visits sig code (unread n p) i held in
       omega (arith, target, visits, over)
 
 -- a symbol of another key than the first term that is left is passed over: the same is to come, and less is to be read
@@ -144,9 +154,9 @@ pub key-passed : (c : Course) (C : IsCourse c) (n : ℕ) (e : c.target ≡ Some 
 key-passed c C n e place f p at own seen first named symbol other =
     let i = instr-seen (instr_at c.set.code.now.instrs n) own seen in
     let key = ap (λ k. k.symbol) i.2 in
-    let nothing = no-step c C n i.0 place f p at
+    let nothing = none-passed c n i.0 (no-step c C n i.0 place f p at
     (λ gs s. other-symbol c.set.sig.now (open_of c.set.table.now f) gs s i.0.token first named
-    (λ z. symbol (sym key ∙ z)) (λ z. other (sym key ∙ z))) in
+    (λ z. symbol (sym key ∙ z)) (λ z. other (sym key ∙ z)))) in
     subst (λ k. IsCourse (record c { target = k.over })
     × (course_to_come (record c { target = k.over }) ≡ course_to_come c)
     × (course_visits (record c { target = k.over }) < course_visits c)) i.2

@@ -5,6 +5,7 @@ use Rattle.std.proofs.Common.{arith}
 use Rattle.std.specs.Prelude.{Option, Some, IsSome}
 use Rattle.mp_term.specs.Size.{all_nodes}
 use Rattle.mp_term.specs.Tree.{Tree}
+use Rattle.mp_term.proofs.ListLaws.{some-same}
 use Rattle.mp_ac.specs.CommPlan.{nodes_below}
 use Rattle.mp_pattern.specs.NetTokens.{NetToken, sym_token, enter_token, leave_token, wild_token, comm_token}
 use Rattle.mp_pattern.specs.Fits.{Table}
@@ -55,9 +56,6 @@ search-load (comm_token p) (f ∷ fs) = by_left f.left
     by_left : (ts : List Tree) → search_cost (comm_token p) ts ≤ all_nodes ts + opens_load fs + 3 * nodes_below p
     by_left [] = omega arith
     by_left (t ∷ ts) = omega arith
-
-some-same : (i j : Instr) → Some i ≡ Some j → i ≡ j
-some-same i j e = cc
 
 module _ (x : Setting) (fs : List Frame) (u : Trail) (ls : List Level) (l : Level) (S : StandsBehind x fs u ls l) where
   pub front-length : length (take l.frames fs) ≡ l.frames

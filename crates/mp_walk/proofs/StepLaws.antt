@@ -22,7 +22,7 @@ use Rattle.mp_walk.proofs.WayLaws.{ways-first, ways-none}
 
 module _ (sig : Sig) (k : NetToken) where
   -- the ways that are left, where no items are
-  left-ways : (l : Read) (f : Open) (fs : List Open) → l.state.open_ones ≡ f ∷ fs → l.ahead ≡ []
+  pub left-ways : (l : Read) (f : Open) (fs : List Open) → l.state.open_ones ≡ f ∷ fs → l.ahead ≡ []
       → steps_left sig k l ≡ ways_from sig f fs l.state.trail k l.next
   left-ways l f fs o a =
       ap (λ os. elim os as (λ _. List Step) [ [] ↦ [] | g ∷ gs ↦ steps_in_left sig k l g gs ]) o

@@ -1,5 +1,5 @@
 -- How much a walk has still to read, as tokens are read and left.
-use Rattle.std.proofs.Common.{◌≡◌, ◌+◌, ℕ, List, [], ◌∷◌, ◌++◌, map, refl, ap, sym, ◌∙◌, arith}
+use Rattle.std.proofs.Common.{◌≡◌, ◌≤◌, ◌<◌, ◌+◌, ℕ, List, [], ◌∷◌, ◌++◌, map, refl, ap, sym, ◌∙◌, arith}
 use Rattle.std.specs.Prelude.{Some, None}
 use Rattle.mp_term.specs.Signature.{Sig}
 use Rattle.mp_walk.specs.Course.{Read, steps_left, unread}
@@ -11,6 +11,11 @@ use Rattle.mp_walk.specs.Walkable.{IsWalkable}
 use Rattle.mp_walk.specs.Ways.{Step}
 use Rattle.mp_walk.proofs.CodePaths.{forest-step, forest-none}
 use Rattle.mp_walk.proofs.TurnLaws.{IsOrdered, unread-steps}
+
+-- the sum of two lists
+pub total-append : (ms ns : List ℕ) → total (ms ++ ns) ≡ total ms + total ns
+total-append [] ns = omega arith
+total-append (m ∷ ms) ns = let h = total-append ms ns in omega (arith, h)
 
 -- the sum of one number more
 pub total-more : {X : Type 0} (f : X → ℕ) (ls : List X) (l : X)
@@ -24,6 +29,21 @@ module _ (sig : Sig) (code : List Instr) where
       → read_visits sig code l ≡ visits_of sig code l i
   read-visits l i held =
       ap (λ o. elim o as (λ _. ℕ) [ None ↦ 1 | Some j ↦ visits_of sig code l j ]) held
+
+  -- a token of which less is left counts no more
+  pub later-visits : (l : Read) (from : ℕ) (i : Instr) → instr_at code l.instr ≡ Some i
+      → total (map (visits_after sig code i) (steps_left sig i.token (record l { next = from })))
+      ≤ total (map (visits_after sig code i) (steps_left sig i.token l))
+      → read_visits sig code (record l { next = from }) ≤ read_visits sig code l
+  later-visits l from i held less =
+      let old = read-visits l i held in
+      let new = read-visits (record l { next = from }) i held in
+      omega (arith, old, new, less)
+
+  -- what stands beside a token counts less than the token
+  pub beside-visits : (l : Read) (i : Instr) → instr_at code l.instr ≡ Some i
+      → visits_from sig code i.over l.state < read_visits sig code l
+  beside-visits l i held = let h = read-visits l i held in omega (arith, h)
 
   -- no way is left
   pub over-visits : (l : Read) (i : Instr) → instr_at code l.instr ≡ Some i → steps_left sig i.token l ≡ []

@@ -56,7 +56,7 @@ in-range a zero k i = absurd i
 in-range a (suc n) k (inl e) = subst (λ z. a ≤ z) (sym e) (omega arith)
 in-range a (suc n) k (inr i) = let h = in-range (a + 1) n k i in omega (arith, h)
 
-flat-none_in : {X Y : Type 0} (f : X → List Y) (xs : List X) → ((x : X) → In x xs → f x ≡ []) → flat_map f xs ≡ []
+pub flat-none_in : {X Y : Type 0} (f : X → List Y) (xs : List X) → ((x : X) → In x xs → f x ≡ []) → flat_map f xs ≡ []
 flat-none_in f [] h = refl
 flat-none_in f (x ∷ xs) h = rw (h x (inl refl)) (flat-none_in f xs (λ y i. h y (inr i)))
 

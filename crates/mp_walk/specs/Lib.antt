@@ -13,6 +13,7 @@ pub mod OpenOnes
 pub mod Ways
 pub mod Trails
 pub mod Course
+pub mod Most
 pub mod Rooms
 pub mod Keys
 pub mod Code

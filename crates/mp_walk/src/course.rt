@@ -21,6 +21,7 @@ ghost use Rattle.mp_walk.specs.WalkView.{IsFirstTarget};
 
 use crate::code::Code;
 use crate::entries::entry_among;
+use crate::fewest::fewest;
 use crate::frame::Frame;
 use crate::instr::Instr;
 use crate::level::Level;
@@ -250,7 +251,8 @@ impl<'a> Course<'a> {
         };
         let mark = self.trail.mark();
         let frame = &self.frames[place];
-        let Some(way) = way_from(sig, table, frame, &instr.token, 0, &mut self.trail) else {
+        let from = fewest(self.set, frame, instr);
+        let Some(way) = way_from(sig, table, frame, &instr.token, from, &mut self.trail) else {
             self.target = instr.over;
             return Ok(Turn::On);
         };

@@ -9,6 +9,7 @@ mod constants;
 mod copy;
 mod course;
 mod entries;
+mod fewest;
 mod found;
 mod frame;
 mod front;

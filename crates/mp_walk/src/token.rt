@@ -1,5 +1,5 @@
 //! What the token of a wildcard takes, whatever was taken before.
-ghost use Rattle.std.specs.Prelude.{◌≡◌, ◌≤◌, ℕ, List, [], Option, is_some, length, true};
+ghost use Rattle.std.specs.Prelude.{◌≡◌, ◌≤◌, ℕ, List, [], Option, is_some, length, true, IfSome, IsTrue};
 ghost use Rattle.mp_term.specs.Signature.{Sig};
 ghost use Rattle.mp_term.specs.Tree.{Tree};
 ghost use Rattle.mp_pattern.specs.NetTokens.{wild_token};
@@ -8,6 +8,7 @@ ghost use Rattle.mp_pattern.specs.PatternTree.{Wildcard, is_sequence};
 ghost use Rattle.mp_table.specs.Table.{HasRanks, terms_at};
 ghost use Rattle.mp_theory.specs.Solve as solve;
 ghost use Rattle.mp_search.specs.Frames.{above};
+ghost use Rattle.mp_walk.specs.Trails.{shape_of, number_of};
 
 use mp_pattern::{NetToken, is_assoc_above, meets_count};
 use mp_search::{is_contribution, is_of_kind};
@@ -51,19 +52,40 @@ pub(crate) fn least(token: &NetToken) -> usize
     }
 }
 
+// It is a wildcard.
+pub(crate) fn is_wild(token: &NetToken) -> bool
+    ensures { IsTrue result → net_token token.now
+        ≡ wild_token (shape_of (net_token token.now)) (number_of (net_token token.now)) }
+{
+    !matches!(
+        token,
+        NetToken::Sym(_) | NetToken::Enter(_) | NetToken::Leave(_) | NetToken::Comm(_)
+    )
+}
+
+// A number of terms that the wildcard takes at most: None where it may take any number.
+pub(crate) fn bound(sig: &Signature, under: Option<OpId>, token: &NetToken) -> Option<usize>
+    ensures { (w : Wildcard) (x : Option ℕ) → net_token token.now ≡ wild_token w x → IfSome result (λ n.
+        (ts : List Tree) → is_some (solve.given sig.now (above under) w ts) ≡ true → length ts ≤ n) }
+{
+    match token {
+        NetToken::Plus(_) | NetToken::Star(_) => None,
+        NetToken::Counted(count, fixed, _) => { if *fixed { Some(*count as usize) } else { None } }
+        NetToken::Dot(_) | NetToken::Opt(_, _) if is_assoc_above(sig, under) => None,
+        _ => Some(1),
+    }
+}
+
 // A number of so many terms that the wildcard takes at most.
 pub(crate) fn most(sig: &Signature, under: Option<OpId>, token: &NetToken, left: usize) -> usize
     ensures least { result ≤ left }
     ensures most { (w : Wildcard) (x : Option ℕ) → net_token token.now ≡ wild_token w x → (ts : List Tree)
         → length ts ≤ left → is_some (solve.given sig.now (above under) w ts) ≡ true → length ts ≤ result }
 {
-    let bound = match token {
-        NetToken::Plus(_) | NetToken::Star(_) => left,
-        NetToken::Counted(count, fixed, _) => { if *fixed { *count as usize } else { left } }
-        NetToken::Dot(_) | NetToken::Opt(_, _) if is_assoc_above(sig, under) => left,
-        _ => 1,
-    };
-    bound.min(left)
+    match bound(sig, under, token) {
+        Some(bound) => bound.min(left),
+        None => left,
+    }
 }
 
 // The wildcard may take the list.

@@ -8,15 +8,17 @@ use Rattle.mp_walk.specs.CourseVisits.{course_visits}
 use Rattle.mp_walk.specs.InstrView.{plain_instr}
 use Rattle.mp_walk.specs.Levels.{read_of}
 use Rattle.mp_walk.specs.OpenOnes.{IsPlaceBelow, open_of, opens}
+use Rattle.mp_ac.specs.Numbered.{numbered_subst}
 use Rattle.mp_walk.proofs.FirstLaws.{new_level, IsFirst, IsFirstTaken, first-sound, first-held, first-spare, first-none}
 use Rattle.mp_walk.proofs.FirstLaws.{first-taken, first-to_come, first-visits, by_result, fewer_by_result}
 use Rattle.mp_walk.proofs.OpeningLaws.{index-at}
 use Rattle.mp_walk.proofs.OpenLaws.{opens-is}
 use Rattle.mp_walk.proofs.ReadingLaws.{single-token}
-use Rattle.mp_walk.proofs.SpentLaws.{passed-course, passed-to_come, passed-less}
+use Rattle.mp_walk.proofs.EndedLaws.{fewer-more}
+use Rattle.mp_walk.proofs.SpentLaws.{none-passed, passed-course, passed-to_come, passed-less}
 use Rattle.mp_walk.proofs.StepLaws.{step-closed}
 use Rattle.mp_walk.proofs.course.Course.read_first.Goals as goal
-use Rattle.mp_walk.proofs.course.Course.read_first.Goals.{After-index-frame, After-len}
+use Rattle.mp_walk.proofs.course.Course.read_first.Goals.{After-fewest-from, After-index-frame, After-len}
 
 -- the frame of the place is there
 at : (c : After-index-frame)
@@ -26,10 +28,11 @@ at c =
     index-at fs c.in-Some-place.place c.index-frame.result.now
     (subst (IsPlaceBelow (length fs)) c.in-Some-place.is c.requires.course.place) c.index-frame.ensures
 
--- the instruction that is to be tried is there, and its place is open
-is_first : (c : After-index-frame) → IsFirst c.args.self.now c.args.number c.mark-mark.result
+-- the instruction that is to be tried is there, its place is open, and nothing comes of the shorter fronts
+is_first : (c : After-fewest-from) → IsFirst c.args.self.now c.args.number c.mark-mark.result
     (plain_instr c.in-Some.instr.now) (open_of c.args.self.now.set.table.now c.index-frame.result.now)
     (opens c.args.self.now.set.table.now c.args.self.now.frames.items c.index-frame.result.now.outer)
+    c.fewest-from.result
 is_first c =
     let self = c.args.self.now in
     let t = self.set.table.now in
@@ -41,17 +44,20 @@ is_first c =
       held = c.instr.ensures ∙ ap (option_map (λ j. plain_instr j.now)) c.in-Some.is;
       is = ap (opens t fs) c.in-Some-place.is
           ∙ opens-is t self.set.sig.now fs c.requires.course.frames c.in-Some-place.place c.index-frame.result.now
-          (at c);
+          (at (goal.at.After-fewest-from c).After-index-frame);
+      idle = λ way r less m. c.fewest-from.ensures
+          (opens t fs c.index-frame.result.now.outer) (numbered_subst t self.trail.stack) way r less m;
     }
 
 -- the token before its first way, and after it
-abbrev before : After-index-frame → Read
+abbrev before : After-fewest-from → Read
 before c =
     let self = c.args.self.now in
-    read_of self.set.table.now self.frames.items self.trail (new_level self c.args.number c.mark-mark.result)
+    read_of self.set.table.now self.frames.items self.trail (new_level self c.args.number c.mark-mark.result
+    c.fewest-from.result)
 
 abbrev taken : After-len → Level
-taken c = record (new_level c.args.self.now c.args.number c.mark-mark.result) {
+taken c = record (new_level c.args.self.now c.args.number c.mark-mark.result c.fewest-from.result) {
   frames = c.len.result;
   next = c.in-Some-way_from.way + 1;
 }
@@ -60,7 +66,7 @@ taken c = record (new_level c.args.self.now c.args.number c.mark-mark.result) {
 is_taken : (c : After-len) → IsFirstTaken c.args.self.now c.args.number c.mark-mark.result
     (plain_instr c.in-Some.instr.now) (open_of c.args.self.now.set.table.now c.index-frame.result.now)
     (opens c.args.self.now.set.table.now c.args.self.now.frames.items c.index-frame.result.now.outer)
-    c.in-Some-way_from.way c.way_from.new.trail (taken c)
+    c.fewest-from.result c.in-Some-way_from.way c.way_from.new.trail (taken c)
 is_taken c =
     let self = c.args.self.now in
     let many : c.len.result ≡ length self.frames.items = omega (arith, c.len.ensures, self.frames.ok.0) in
@@ -84,8 +90,8 @@ returns-in_default-place-clause-turn c =
     let e = c.requires.target in
     let i = plain_instr c.in-Some.instr.now in
     let held = c.instr.ensures ∙ ap (option_map (λ j. plain_instr j.now)) c.in-Some.is in
-    let nothing = step-closed self.set.sig.now i.token (unread n (course_of self).present)
-    (ap (opens self.set.table.now self.frames.items) c.in_default-place.is) in
+    let nothing = none-passed self n i (step-closed self.set.sig.now i.token (unread n (course_of self).present)
+    (ap (opens self.set.table.now self.frames.items) c.in_default-place.is)) in
     (passed-course self C n e i held nothing, passed-to_come self C n e i held nothing)
 
 pub returns-in_default-place-clause-less : goal.returns-in_default-place-clause-less
@@ -96,9 +102,15 @@ returns-in_default-place-clause-less c =
     let e = c.requires.target in
     let i = plain_instr c.in-Some.instr.now in
     let held = c.instr.ensures ∙ ap (option_map (λ j. plain_instr j.now)) c.in-Some.is in
-    let nothing = step-closed self.set.sig.now i.token (unread n (course_of self).present)
-    (ap (opens self.set.table.now self.frames.items) c.in_default-place.is) in
+    let nothing = none-passed self n i (step-closed self.set.sig.now i.token (unread n (course_of self).present)
+    (ap (opens self.set.table.now self.frames.items) c.in_default-place.is)) in
     passed-less self C n e i held nothing
+
+pub fewest-from-requires : goal.fewest-from-requires
+fewest-from-requires c =
+    let held = c.requires.course.frames c.in-Some-place.place c.index-frame.result.now
+    (at (goal.at.fewest-from-requires c).After-index-frame) in
+    record { setting = c.requires.course.setting; frame = held.frame; ordered = held.ordered }
 
 pub way_from-requires-clause-frame : goal.way_from-requires-clause-frame
 way_from-requires-clause-frame c =
@@ -111,24 +123,24 @@ way_from-requires-clause-ordered c =
     (at (goal.at.way_from-requires-clause-ordered c).After-index-frame)).ordered
 
 pub way_from-requires-clause-sound : goal.way_from-requires-clause-sound
-way_from-requires-clause-sound c = first-sound (is_first (goal.at.way_from-requires-clause-sound c).After-index-frame)
+way_from-requires-clause-sound c = first-sound (is_first (goal.at.way_from-requires-clause-sound c).After-fewest-from)
 
 pub way_from-requires-clause-single : goal.way_from-requires-clause-single
 way_from-requires-clause-single c =
     single-token c.in-Some.instr.now.token c.in_default-token.not-Comm
 
 pub way_from-requires-clause-held : goal.way_from-requires-clause-held
-way_from-requires-clause-held c = first-held (is_first (goal.at.way_from-requires-clause-held c).After-index-frame)
+way_from-requires-clause-held c = first-held (is_first (goal.at.way_from-requires-clause-held c).After-fewest-from)
 
 pub way_from-requires-clause-spare : goal.way_from-requires-clause-spare
-way_from-requires-clause-spare c = first-spare (is_first (goal.at.way_from-requires-clause-spare c).After-index-frame)
+way_from-requires-clause-spare c = first-spare (is_first (goal.at.way_from-requires-clause-spare c).After-fewest-from)
 
 pub returns-in_default-way_from-clause-turn : goal.returns-in_default-way_from-clause-turn
 returns-in_default-way_from-clause-turn c =
     let self = c.args.self.now in
     let n = c.args.number in
     let i = plain_instr c.in-Some.instr.now in
-    let first = is_first (goal.at.returns-in_default-way_from-clause-turn c).After-index-frame in
+    let first = is_first (goal.at.returns-in_default-way_from-clause-turn c).After-fewest-from in
     let nothing = first-none first (c.in_default-way_from.ensures.way
     (opens self.set.table.now self.frames.items c.index-frame.result.now.outer)) in
     subst (λ u.
@@ -143,7 +155,7 @@ returns-in_default-way_from-clause-less c =
     let self = c.args.self.now in
     let n = c.args.number in
     let i = plain_instr c.in-Some.instr.now in
-    let first = is_first (goal.at.returns-in_default-way_from-clause-less c).After-index-frame in
+    let first = is_first (goal.at.returns-in_default-way_from-clause-less c).After-fewest-from in
     let nothing = first-none first (c.in_default-way_from.ensures.way
     (opens self.set.table.now self.frames.items c.index-frame.result.now.outer)) in
     subst (λ u. course_visits (record self { trail = u; target = i.over }) < course_visits self)
@@ -152,12 +164,12 @@ returns-in_default-way_from-clause-less c =
 pub go_down-requires-clause-taken : goal.go_down-requires-clause-taken
 go_down-requires-clause-taken c =
     let known = goal.at.go_down-requires-clause-taken c in
-    (before known.After-index-frame, first-taken (is_first known.After-index-frame) (is_taken known.After-len))
+    (before known.After-fewest-from, first-taken (is_first known.After-fewest-from) (is_taken known.After-len))
 
 pub returns-clause-turn : goal.returns-clause-turn
 returns-clause-turn c =
     let known = goal.at.returns-clause-turn c in
-    let first = is_first known.After-index-frame in
+    let first = is_first known.After-fewest-from in
     let taken = is_taken known.After-len in
     by_result (first-taken first taken) c.go_down.result c.go_down.new.self (course_to_come c.args.self.now)
     (first-to_come first taken) c.go_down.ensures.turn
@@ -165,7 +177,9 @@ returns-clause-turn c =
 pub returns-clause-less : goal.returns-clause-less
 returns-clause-less c =
     let known = goal.at.returns-clause-less c in
-    let first = is_first known.After-index-frame in
+    let first = is_first known.After-fewest-from in
     let taken = is_taken known.After-len in
-    fewer_by_result (first-taken first taken) c.go_down.result (course_visits c.go_down.new.self)
-    (course_visits c.args.self.now) (first-visits first taken) c.go_down.ensures.less
+    fewer-more c.go_down.result (course_visits c.go_down.new.self) _ (course_visits c.args.self.now)
+    (first-visits first taken)
+    (fewer_by_result (first-taken first taken) c.go_down.result (course_visits c.go_down.new.self) _ refl
+    c.go_down.ensures.less)

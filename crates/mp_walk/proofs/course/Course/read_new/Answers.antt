@@ -2,7 +2,7 @@ use Rattle.std.proofs.Common.{◌≡◌, length, refl, sym, subst, arith}
 use Rattle.std.specs.Prelude.{None, IfOk, false}
 use Rattle.mp_walk.specs.CourseView.{IsBroughtOn}
 use Rattle.mp_walk.specs.CourseVisits.{course_visits, IsFewer}
-use Rattle.mp_walk.proofs.LastLaws.{last-new, new-standing, visits-new}
+use Rattle.mp_walk.proofs.LastLaws.{last-new, new-owed, new-standing, visits-new}
 use Rattle.mp_walk.proofs.course.Course.read_new.Goals as goal
 
 pub read_on-requires-clause-standing : goal.read_on-requires-clause-standing
@@ -17,7 +17,16 @@ read_on-requires-clause-standing c =
       mark = c.mark.result;
       next = 0;
       search = None;
-    }) refl refl c.mark.ensures many refl refl
+    }) refl refl c.mark.ensures many refl
+    (new-owed self c.requires.course c.args.number c.requires.target (record {
+      instr = c.args.number;
+      ended = false;
+      place = self.place;
+      frames = c.len.result;
+      mark = c.mark.result;
+      next = 0;
+      search = None;
+    }) refl refl c.mark.ensures refl refl)
 
 pub returns-clause-turn : goal.returns-clause-turn
 returns-clause-turn c =
