@@ -1,25 +1,18 @@
 -- Children that can't take the arguments of an application.
-use Rattle.std.proofs.Common.{◌≡◌, ◌∙◌, ap, sym, refl, subst, ℕ, zero, suc, ◌-◌, true, false, ◌&&◌, not, arith}
-use Rattle.std.proofs.Common.{List, [], ◌∷◌, inl, inr}
+use Rattle.std.proofs.Common.{◌≡◌, ap, refl, subst, ℕ, zero, suc, ◌-◌, ◌&&◌, arith}
+use Rattle.std.proofs.Common.{List, [], ◌∷◌}
 use Rattle.std.specs.Prelude.{Option, Some, None, IfSome, slice_set}
-use Rattle.mp_term.specs.Tree.{Tree, app, Trees, trees}
-use Rattle.mp_term.specs.Signature.{Sig, is_one}
+use Rattle.mp_term.specs.Tree.{Tree, app, trees}
+use Rattle.mp_term.specs.Signature.{Sig}
 use Rattle.mp_term.specs.Normal.{IsNormal}
 use Rattle.mp_pattern.specs.Admission.{Rule}
 use Rattle.mp_pattern.specs.Fits as fits
 use Rattle.mp_pattern.specs.PatternTree.{Patterns, app_pattern}
 use Rattle.mp_pattern.specs.Value.{Subst}
-use Rattle.mp_theory.specs.MayMatch.{each_takes_one}
+use Rattle.mp_theory.specs.MayMatch.{has_optional}
 use Rattle.mp_theory.specs.OneList.{item_list}
-use Rattle.mp_cursor.proofs.RootLaws.{single, arguments-taken, no-items}
+use Rattle.mp_cursor.proofs.RootLaws.{arguments-taken, no-items}
 use Rattle.mp_rewrite.specs.Within.{IsFree, with_one}
-
--- an application that doesn't collapse takes one of the same operation
-pub application-takes : (sig : Sig) (s : Subst) (f : Option ℕ) (g : ℕ) (ps : Patterns) (t : Tree) (W : fits.Table)
-    → is_one sig g ≡ false → fits.Takes sig s f (app_pattern g ps) (t ∷ []) W → (us : Trees) × (t ≡ app g us)
-application-takes sig s f g ps t W o (inl h) =
-    (trees (fits.arranged sig (Some g) (fits.joined h.takes)), single t _ h.node)
-application-takes sig s f g ps t W o (inr h) = absurd (let wrong : true ≡ false = sym h.identity ∙ o in cc)
 
 -- the items behind the first, where one of them is replaced
 pub with_one-later : (i : ℕ) (t : Tree) (ts : List Tree) (u : Tree) → (i ≡ 0 → ⊥)
@@ -34,7 +27,8 @@ pub never-taken : (sig : Sig) (g : ℕ) (ps : Patterns) (ts : List Tree) (r : Ru
     → fits.AllTakeBy sig (fits.ByValue sig s) g ps ls Ws → fits.joined ls ≡ ts → ⊥)
     → item_list sig r (app g (trees ts)) ≡ []
 never-taken sig g ps ts r free n is never = no-items sig r (app g (trees ts)) n (λ s W h.
-    let taken = arguments-taken sig s g ps ts W free.comm (ap (λ b. b && not (each_takes_one sig (Some g) ps)) free.one)
+    let taken = arguments-taken sig s g ps ts W free.comm
+    (ap (λ b. b && (fits.no_sequence ps && has_optional ps)) free.one)
     (subst (λ p. fits.Takes sig s None p (app g (trees ts) ∷ []) W) is h) in
     never s taken.0 taken.1 taken.2 taken.3)
 

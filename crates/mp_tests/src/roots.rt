@@ -6,7 +6,7 @@ use mp_term::Signature;
 use std::alloc::Global;
 use std::process::Abort;
 
-const DECLARED: &str = "op f 1; op g 0+; op u 1+ assoc comm one; kind v: a b;";
+const DECLARED: &str = "op f 1; op g 0+; op u 1+ assoc comm one; op w 1+ one; kind v: a b;";
 
 // In each table a line is a pattern and a term.
 
@@ -19,7 +19,9 @@ f(f(a))|f(f(a))\n\
 f(x_v)|f(b)\n\
 g(a, f(x_))|g(a, f(b))\n\
 g(x___)|g()\n\
-u(a, x_)|u(b, c)\n\
+u(a, x_)|u(a, c)\n\
+u(x_, f(y_))|u(a, f(b))\n\
+u(x_, w(y_:0, z_))|u(a, b)\n\
 u(x_, y_:0)|a\n\
 u(x_, y_:0)|f(a)\n\
 u(x_:0, y_:0)|0\n\
@@ -39,8 +41,13 @@ g(a, f(x_))|g(a, b)\n\
 g(a, x_)|g(a)\n\
 g(a, x___)|g(b)\n\
 g(x_)|a\n\
+u(x_, y_)|a\n\
 u(x_, y__)|a\n\
-u(x_, y___)|f(a)";
+u(x_, y___)|f(a)\n\
+u(a, x_)|u(b, c)\n\
+u(x_, f(y_))|u(a, b)\n\
+u(x_, w(y_, z__))|u(a, b)\n\
+w(a, x__)|w(b, c)";
 
 // Stops unless the pattern of each line may fit at the root of its term, or may not, as is wanted.
 fn check_lines(rt: &impl Abort, alloc: Global, sig: &Signature, lines: &str, wanted: bool) {
